@@ -53,12 +53,12 @@ def by_page(tasks):
     return in_lanes({key: (waits, *measured(key, lines, memory), with_jobs(key, call)) for key, (waits, lines, memory, call) in tasks.items()})
 
 
-# The jobs of the proofs that end the longest chain of crates.
-JOBS = {"stored_files": 2, "file_commands": 2, "sunreg": 2}
+# The jobs of proofs in the longest chain of crates. While they run, other processors would be idle.
+JOBS = {"stored_files": 2, "file_commands": 2, "sunreg": 2, "point_list": 3, "read_plan": 3, "office_events": 3, "office_books": 3, "office_core": 2, "sun_chain": 2, "store_tables": 2, "office_store": 2}
 
 
 def with_jobs(key, call):
-    """Returns the call of a part. The proofs that end the longest chain of crates get more jobs.
+    """Returns the call of a part. The proofs of the longest chain of crates get more jobs.
 
     The kit gives them one job each if crates of tests wait too. Such a proof would then take about
     twice as long, and the other processors would be idle at the end. Jobs share their memory."""

@@ -40,47 +40,15 @@ COLUMNS = (
     " processor counts up to twice. A blank was not measured. The number of mutants is in brackets; their seconds"
     " include the crate's proof."
 )
-PAGE = """# What the gate costs
+BY_CRATE = "## By crate\n"
 
-`rt ci` proves everything from nothing. CI ends a run after three hours, so a new capability must
-first find its room. `bench/gate.sh --page --log FILE` writes this page from the log of
-`bench/watch.py FILE`, which ran beside the gate.
 
-- **A crate pays its front end**: 10 to 20 s for a low crate, one or two minutes for a high one,
-  which reads the types of the store and of SQLite.
-- **A crate of tests also pays for the program that it links**: one test that queries an empty
-  database takes 171 s of a busy processor. So one crate holds the tests of one level.
-- **A function costs** 1.4 s in a low crate and 3 s in a high one; a line of a test costs 0.65 s.
-- **Early returns are expensive**: a `?` drops all living values. It costs 0.4 s beside a vector or
-  two, and 30 to 50 s in a test with several offices and connections. `.expect(rt, "..")` costs
-  0.1 s. A `?` is cheap in a function of its own that borrows these values.
-- **Comparisons of tuples are expensive, long literals are cheap**: a static of 59 tuples of four
-  texts costs 2.5 s. `assert_eq!` of two options costs 2 s, `assert!` of the same with `==` 1 s. A
-  match on a tuple of an answer and an option costs 4 to 5 s, nested matches cost 1.7 s.
-- **A call of a function that is generic over a store, for one type of store**, is expensive for its
-  caller: 3 s (a store in memory), 5 to 15 s (a database in memory) or 15 to 30 s (files). It costs
-  under 1 s where the caller is generic too. So one generic function does the work, and one place
-  calls it for a type.
-- **By steps**, over a whole gate on 2026-11-28: 70 % of a check's time passes between its first
-  step and its last. The borrow check takes half of these, `Tie` a sixth and proofs a seventh. A
-  tenth passes before the first step, and two tenths after the last, and in linking and building.
-- **A mutant** in `must-fail/` costs 20 to 50 s, and the first mutant of a crate also the crate's
-  proof. In `tests/edits/` a mutant costs the gate nothing, and `tests/edits.sh` 9 s.
-- **A crate should have** fewer than 90 functions and 1,500 lines, no `#[test]` that a crate of
-  tests can hold, and at most 8 mutants in `must-fail/`.
-- **The lists of `crates.txt` are short**: a crate lists the libraries that its sources, definitions
-  and proofs name. The kit finds the libraries below. `tests/unnamed.py` lists superfluous entries.
-
-`bench/functions.sh NAME` lists the expensive functions of a check, and their expensive steps.
-Without a name it lists the steps of all running checks. `bench/ci.py --minutes PROCESSORS`
-simulates the gate's schedule over this page, and prints the minutes on so many processors.
-
-## By crate
-
-{measured}
-
-{table}
-"""
+def page(measured, table):
+    """Returns the page with a new table. The text above the table stays as it is."""
+    path = os.path.join(os.path.dirname(os.path.realpath(__file__)), "GATE.md")
+    with open(path, encoding="utf-8") as it:
+        text = it.read().partition(BY_CRATE)[0]
+    return f"{text}{BY_CRATE}\n{measured}\n\n{table}"
 
 
 def keep_only(rt, names, tree):
@@ -245,7 +213,7 @@ def main(asked):
     rows = "\n".join(table(root, names, seconds, memory))
     wall = round((max(it["t1"] for it in log) - min(it["t0"] for it in log)) / 60) if log else 0
     measured = textwrap.fill(f"{machine(log)}, {wall} minutes by the clock from the first process to the last. {COLUMNS}", 100)
-    print(PAGE.format(measured=measured, table=rows).rstrip("\n") if asked.page else rows)
+    print(page(measured, rows) if asked.page else rows)
     if not asked.page:
         print(f"\n{machine(log)}: {sum(seconds.values()) / 60:.0f} processor minutes")
     return status

@@ -70,13 +70,12 @@ COUNTERS = [
     (4600, "7 install other m3 @read 100000\n8 install none m3 @read 100000\n", LIST, 1, "unread\nunread\n"),
     (4600, "7 install other m3 @read 100000 !\n", LIST, 1, "bad line 1\n"),
 ]
-# `enter -n` over the site: lines that acted, a changed line and a bad one, and entries with a mark
-# or without.
-LOOKS = [
-    (SITE, 0, "again\nagain\nagain\nagain\n"),
-    ("1 device inv 2 5 1\n5 tick\n6 device other 2 5 1\n", 1, "refused 11\nbad line 2\nnew\n"),
-    ("5 manual main 105002 0\n5 manual main 105002 0 !\n6 void m1 2 !\n", 1, "new\nnew\nbad line 3\n"),
-]
+# Lines that `enter` does not accept, and the beginnings of what standard error has of each.
+EXPLAINED = (
+    "1 device inv 2 5 1\n5 close none 900 0\n6 manual main 105002 0\n7 list inv @inv.csv\n8 tick\n9 device x 3 5 1\n",
+    "refused 11\nrefused 1\ndoubted 100002000\nrow 2 fault 5\nrefused 12\nbad line 5\n",
+    ["line 1: 1 device inv 2 5 1: refused 11: ", "line 2: 5 close none 900 0: refused 1: ", "line 3: 6 manual main 105002 0: doubted 100002000: ",
+     "line 4: 7 list inv @inv.csv: refused 12: ", "line 5: 8 tick: bad line 5: "])
 DAY = "1970-01-01   2                   200000\nend 1\n"
 MONTHS = ["--by", "month", "--unit", "kwh"]
 # Reports of a meter that counted 200 Wh to 1900: (register, options, status, output).
@@ -160,7 +159,7 @@ class Office:
 def counter():
     """The port of a simulator whose counter at 40094 shows 7000."""
     port = free_port()
-    words = [PROGRAM, "stand-in", "--port", str(port), "--connections", "9"]
+    words = [PROGRAM, "stand-in", "--port", str(port), "--connections", "20"]
     child = subprocess.Popen(words, stdin=subprocess.PIPE, stdout=subprocess.DEVNULL, stderr=subprocess.DEVNULL)
     try:
         child.stdin.write(b"area holding 40094 2\nset holding 40095 7000\n")
@@ -186,21 +185,32 @@ def play_entries(room):
         office = Office(room, name)
         for moment, text, points, status, printed in rows:
             (office.folder / "inv.csv").write_text(points)
+            office.enter(moment, text, status, printed, "-n")
             office.enter(moment, text, status, printed)
     office = Office(room, "counters")
     with counter() as port:
         for moment, text, _, status, printed in COUNTERS:
+            office.enter(moment, text, status, printed, "--devices", f"inv=127.0.0.1:{port}", "-n")
             office.enter(moment, text, status, printed, "--devices", f"inv=127.0.0.1:{port}")
 
 
 def play_looks(room):
-    """`enter -n` records nothing: the site still acts after it."""
+    """`enter -n` records nothing: the site still acts after it. Each line that is not accepted is
+    explained on standard error."""
     office = Office(room, "looks")
     (office.folder / "inv.csv").write_text(LIST)
-    office.enter(1000, SITE, 0, "new\nnew\nnew\nnew\n", "-n")
+    office.enter(1000, SITE, 0, "ok\nok\nok\nok\n", "-n")
+    office.holds(1000, ["report", "--register", "main"], 1, "refused 1\n")
     office.enter(1000, SITE, 0, "ok\nok\nok\nok\n")
-    for text, status, printed in LOOKS:
-        office.enter(1000, text, status, printed, "-n")
+    (office.folder / "inv.csv").write_text(FAULTY)
+    text, printed, beginnings = EXPLAINED
+    for words in (["-n"], []):
+        done = office.run(4600, ["enter", "--caller", "desk", *words], text)
+        same(f"explained {words}", (done.returncode, done.stdout.decode()), (1, printed))
+        said = done.stderr.decode().splitlines()
+        same(f"explained {words}: lines", len(said), len(beginnings))
+        for line, beginning in zip(said, beginnings):
+            same(f"explained {words}: {line}", line.startswith(f"sunreg: {beginning}") and len(line) > len(beginning) + 20, True)
 
 
 def play_reports(room):

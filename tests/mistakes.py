@@ -84,13 +84,15 @@ EXAMPLES = {
     "A wrong register or device": Example(
         after={"main": 200000, "roof-wh": 0}, next=("roof", 40094, 5400, "reading m2 5400 rolls 0 step 200000")),
     "A wrong address or port of a device": Example(statuses={0: 3}, causes={0: "port 1502 of 127.0.0.1"}),
-    "The same name or file twice": Example(statuses={1: 1}),
+    "The same name or file twice": Example(statuses={1: 1}, causes={1: "line 1: 1 device inv 1 5 1: refused 2: the name is already in use"}),
     "A refused line in a file": Example(
-        readings=[], set_up="", statuses={0: 1}, before={}, after={"main": 0}, next=("inv", 40094, 5400, "reading m1 5400 rolls 0 step 400000")),
+        readings=[], set_up="", statuses={0: 1}, causes={0: "line 3: 3 register main inv 3 70000 @40096: refused 12: "}, before={},
+        after={"main": 0}, next=("inv", 40094, 5400, "reading m1 5400 rolls 0 step 400000")),
     "A wrong zone": Example(statuses={2: 1}, causes={2: "right.db: its time zone differs from that of office.db"}, after={"main": 0}, file="right.db"),
     "A wrong ceiling": Example(
         readings=[(15, 5200), (25, 5300)], held=["held m1 5200 cause 6", "held m1 5300 cause 6"], set_up=SET_UP.replace(" 100000", " 100"),
-        statuses={0: 1}, before={"main": 0}, after={"main": 300000}, next=("inv", 40094, 5400, "reading m2 5400 rolls 0 step 100000")),
+        statuses={0: 1}, causes={0: "line 1: 5 exchange main 5300 0 m2 5300 0 100000: doubted 300000: "}, before={"main": 0},
+        after={"main": 300000}, next=("inv", 40094, 5400, "reading m2 5400 rolls 0 step 100000")),
     "A wrong scale of a meter": Example(
         held=["held m1 5200 cause 2"], set_up=SET_UP.replace(" 0 100000", " 1 100000"), before={"main": 0}, after={"main": 0},
         next=("inv", 40094, 5400, "reading m1 5400 rolls 0 step 400000")),
@@ -98,9 +100,10 @@ EXAMPLES = {
         readings=[(15, 5200), (25, 5300)], before={"main": 300000}, after={"main": 0, "roof": 0},
         next=("inv", 40190, 760, "reading m2 760 rolls 0 step 60000")),
     "A wrong reading by hand": Example(
-        statuses={0: 1}, after={"main": 47000000}, next=("inv", 40094, 5400, "reading m1 5400 rolls 0 step 100000")),
+        statuses={0: 1}, causes={0: "line 2: 6 void m1 3: refused 16: "}, after={"main": 47000000}, next=("inv", 40094, 5400, "reading m1 5400 rolls 0 step 100000")),
     "A void of the wrong entry": Example(
-        readings=[(15, 5200), (25, 9200)], statuses={3: 1}, before={"main": 4200000}, after={"main": 0},
+        readings=[(15, 5200), (25, 9200)], statuses={3: 1}, causes={3: "line 1: 6 void m1 2: refused 16: "}, before={"main": 4200000},
+        after={"main": 0},
         next=("inv", 40094, 5400, "reading m1 5400 rolls 0 step 400000")),
     "An exchange that nobody entered": Example(
         readings=[(15, 5200), (25, 20)], held=["held m1 20 cause 6"], after={"main": 250000},

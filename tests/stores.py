@@ -51,6 +51,12 @@ def run(*words, text=""):
     return done.returncode, done.stdout, "\n".join(said)
 
 
+def refused(file, caller, text):
+    """Enters a line. Returns the status, the output, and the beginning of what explains the answer."""
+    status, printed, said = run("enter", "--db", file, "--caller", caller, text=text)
+    return status, printed, ": ".join(said.split(": ")[:4])
+
+
 def copy_file(db, to):
     """Copies only a file, over any file of the name: a log of another file there would be taken for
     its own."""
@@ -255,13 +261,13 @@ def check_requests():
     for turn in ("first", "again"):
         same(f"an exchange, {turn}", run("enter", "--db", "asked.db", "--caller", "desk", text=line), (0, "ok\n", ""))
     other = "7 exchange main 5301 0 m2 0 0 100000\n"
-    same("another request of the number", run("enter", "--db", "asked.db", "--caller", "desk", text=other), (1, "refused 11\n", ""))
+    same("another request of the number", refused("asked.db", "desk", other), (1, "refused 11\n", "sunreg: line 1: 7 exchange main 5301 0 m2 0 0 100000: refused 11"))
     for caller, number in (("away", 7), ("desk", 8)):
-        asked = run("enter", "--db", "asked.db", "--caller", caller, text=f"{number} exchange main 5300 0 m2 0 0 100000 !\n")
-        same(f"it is not that of {caller} {number}", asked, (1, "refused 2\n", ""))
+        asked = f"{number} exchange main 5300 0 m2 0 0 100000 !"
+        same(f"it is not that of {caller} {number}", refused("asked.db", caller, f"{asked}\n"), (1, "refused 2\n", f"sunreg: line 1: {asked}: refused 2"))
     same("it acted once", rows_of("asked.db", "SELECT meter, ended, last_raw, total FROM installations"), [("m1", 1, 5300, 300000), ("m2", 0, 0, 0)])
     execute("asked.db", "UPDATE replies SET kind = 'sold'")
-    same("a kept command that is none", run("enter", "--db", "asked.db", "--caller", "desk", text=line), (1, "refused 13\n", ""))
+    same("a kept command that is none", refused("asked.db", "desk", line), (1, "refused 13\n", f"sunreg: line 1: {line[:-1]}: refused 13"))
     same("its energy", rows_of("asked.db", "SELECT meter, sum(mwh) FROM intervals"), [("m1", 300000)])
 
 

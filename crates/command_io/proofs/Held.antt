@@ -1,4 +1,5 @@
--- Lemmas on the bytes that a reader returned, and on the bytes in the buffer of `Buffered`.
+-- Lemmas about the bytes that a reader returned, and about the bytes in the buffer of a `Buffered`
+-- writer.
 use Rattle.std.proofs.Common.{◌≡◌, ◌≤◌, ◌-◌, ℕ, List, [], ◌++◌, length, take, drop, Option, None, Some, IfSome, Result, Ok, Err, sym, ap, ◌∙◌, subst, append_assoc, append-nil, arith, take-append-drop}
 use Rattle.std.specs.Io.KnownBytes.{Appends, Consumes, IsAtEnd, Keeps}
 use Rattle.std.proofs.KnownBytes.{Appends-trans, Consumes-all, Consumes-trans}

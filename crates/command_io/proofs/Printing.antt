@@ -1,4 +1,4 @@
--- Lemmas on the output of a command and its exit status.
+-- Lemmas about the output and the exit status of a command.
 use Rattle.std.proofs.Common.{◌≡◌, ◌⊎◌, inl, inr, ◌<◌, ◌≤◌, ℕ, List, [], length, Option, None, Some, IfSome, refl, sym, subst}
 use Rattle.std.specs.Prelude.{◌≢◌}
 use Rattle.std.specs.Io.KnownBytes.{Appends}

@@ -11,13 +11,13 @@ use Rattle.sun_points.specs.Writing.{GotPart}
 abbrev pub most_bytes : ℕ
 most_bytes = 4194304
 
--- States that the bytes are all unread bytes of the input, if the reader's contract says which
--- bytes are unread.
+-- States that, if the reader's contract says which bytes of the input are unread, the given bytes
+-- are exactly these bytes. Otherwise states nothing.
 abbrev pub AreWholeOf : {Z : Type 0} → (remaining : Option (List ℕ)) → (bytes : Vec ℕ Z) → Type 0
 AreWholeOf remaining bytes = IfSome remaining (λ all. bytes.items ≡ all)
 
--- States that the fault is `TooLong` only if the unread input exceeds `most_bytes`, if the reader's
--- contract says which bytes are unread.
+-- States that, if the reader's contract says which bytes are unread, the fault is `TooLong` only
+-- for more than `most_bytes` unread bytes. Otherwise states nothing.
 abbrev pub BlamesLengthRightly : (remaining : Option (List ℕ)) → ReadFault → Type 0
 BlamesLengthRightly remaining fault =
     fault ≡ TooLong → IfSome remaining (λ all. most_bytes < length all)
@@ -33,15 +33,15 @@ ReportsTooLong Fine old new = ⊥
 ReportsTooLong Refused old new = Appends old new too_long
 ReportsTooLong Failed old new = GotPart too_long old new
 
--- States how a command ends if it could not read its input. It prints `too long` for an input that
--- is too long, and nothing if a read failed or memory ran out.
+-- States the output and the exit status of a command that could not read its input. The command
+-- prints `too long` for an input that is too long, and nothing if a read failed or memory ran out.
 abbrev pub EndsUnread : (input : List ℕ) → ExitStatus → (old new : Option (List ℕ)) → Type 0
 EndsUnread input status old new =
     ((most_bytes < length input) × ReportsTooLong status old new)
     ⊎ ((status ≡ Failed) × Appends old new [])
 
--- States how a command ends if it could not read its input, if the reader's contract says which
--- bytes the input has.
+-- States the output and the exit status of a command that could not read its input. Applies only if
+-- the reader's contract says which bytes the input has, and otherwise states nothing.
 abbrev pub LeavesUnread : (remaining : Option (List ℕ)) → (old new : Option (List ℕ)) → ExitStatus
     → Type 0
 LeavesUnread remaining old new status =

@@ -2,7 +2,7 @@
 use Rattle.std.specs.Prelude.{◌≡◌, ◌==◌, ℕ, Bool, true, Result, Ok, Err}
 use Rattle.command_io.specs.declared.printer.NotedWriter.{NotedWriter}
 
--- The writer that a `NotedWriter` wraps, and to which it passes its bytes.
+-- The inner writer of a `NotedWriter`, which receives the bytes written to the `NotedWriter`.
 abbrev pub written_on : {W : Type 0} → NotedWriter W → W
 written_on noted = noted.output
 

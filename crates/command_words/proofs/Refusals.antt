@@ -1,5 +1,5 @@
--- Proves that each kind of error of the argument parser `clap` is converted to the fault that the
--- contract requires.
+-- Proves that each kind of error of the argument parser `clap` is converted to a fault that the
+-- contract allows.
 use Rattle.std.proofs.Common.{◌≡◌, ◌≢◌, ◌∙◌, ◌⊎◌, inl, inr, List, [], ◌∷◌, rules, sym, subst}
 use Rattle.std.specs.Borrow.{Bor}
 use Rattle.clap.specs.Words.{IsAmong, Kinds, Text}

@@ -8,8 +8,8 @@ use Rattle.command_words.specs.declared.faults.WordsFault.{WordsFault}
 use Rattle.command_words.specs.declared.faults.WordsFault.TheVariants.{Wrong, Help, Version, Memory}
 
 -- States which faults the program may report when the argument parser `clap` returns an error of
--- the given kind. `Help` and `Version` need a request for them. `Memory` (out of memory) is always
--- allowed.
+-- the given kind. `Help` and `Version` are allowed only if the user requested them. `Memory` (out
+-- of memory) is always allowed.
 abbrev pub IsRefusal : ErrorKind → WordsFault → Type 0
 IsRefusal kind (Wrong text) =
     (kind ≢ DisplayHelp) × (kind ≢ DisplayVersion) × (kind ≢ OutOfMemory)
@@ -17,7 +17,8 @@ IsRefusal kind (Help text) = kind ≡ DisplayHelp
 IsRefusal kind Version = kind ≡ DisplayVersion
 IsRefusal kind Memory = ⊤
 
--- States which faults the program may report when an option's value is missing or invalid.
+-- States which faults the program may report when an option's value is missing or invalid. Only
+-- `Wrong` and `Memory` (out of memory) are allowed.
 abbrev pub IsMisreading : ValueFault → WordsFault → Type 0
 IsMisreading fault (Wrong text) = fault ≢ value.Memory
 IsMisreading fault (Help text) = ⊥

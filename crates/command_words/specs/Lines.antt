@@ -17,8 +17,8 @@ use Rattle.command_words.specs.declared.line.FormWords.{FormWords}
 use Rattle.command_words.specs.declared.line.Sealing.{Sealing}
 use Rattle.command_words.specs.declared.line.Sealing.TheVariants as sealing
 
--- The options that determine what a report shows: days, period, unit, output format, and whether it
--- is a statement (a list of meters for checking a bill).
+-- The options that determine what a report shows: days, period, unit, output format, and whether
+-- the report is a statement (a list of meters for checking a bill).
 pub record Form : Type 0 where
   pub from : Option Text
   pub till : Option Text
@@ -135,7 +135,7 @@ connections_in rows = number_at 1000000 (codes "connections") rows
 abbrev pub hosts_in : List Row → Option (List Text)
 hosts_in rows = host_names_of (texts_at (codes "host-name") rows)
 
--- Definitions of the parsed command line of each command, from its options.
+-- For each command, a definition that converts its option values to the parsed command line.
 
 -- The command `replay` with a time zone or a file. None if both are given, because the file has its
 -- own zone.
@@ -300,7 +300,7 @@ carried_by word =
     else (if bytes_eq word (codes "year") then Some Year else None)
 
 -- Parses the number of earlier files whose energy the command `run` also reports. The option
--- requires `--carry` and a single file.
+-- requires `--carry` and a single database file.
 abbrev pub earlier_in : (are_several : Bool) → (carry : Option Period) → List Row
     → Option (Option ℕ)
 earlier_in are_several carry rows =
@@ -334,7 +334,8 @@ completions_in rows =
     given (text_at (codes "shell") rows)
     (λ shell. if bytes_eq shell (codes "bash") then Some Completions else None)
 
--- Parses the options of the command with the given name. None if an option is missing or invalid.
+-- Parses the options of the command with the given name. None if no such command exists, or an
+-- option is missing or invalid.
 unfoldable pub command_in : Text → List Row → Option Line
 command_in name rows =
     if bytes_eq name (codes "replay") then replay_in rows

@@ -25,14 +25,14 @@ text_at id rows = first_of id rows
 abbrev pub number_at : ℕ → Text → List Row → Option ℕ
 number_at most id rows = given (text_at id rows) (number_up_to most)
 
--- The parsed value of an optional option. The inner None means that the option is not given. The
--- outer None means that its value is invalid.
+-- The parsed value of an option that need not be given. The inner None means that the option is not
+-- given. The outer None means that its value is invalid.
 abbrev pub if_some : {A B : Type 0} → (A → Option B) → Option A → Option (Option B)
 if_some reads None = Some None
 if_some reads (Some value) = option_map Some (reads value)
 
--- The number from 1 to `most` in an optional option. The inner None means that the option is not
--- given. The outer None means that its value is out of range.
+-- The number from 1 to `most` in an option that need not be given. The inner None means that the
+-- option is not given. The outer None means that its value is out of range.
 abbrev pub number_if : ℕ → Text → List Row → Option (Option ℕ)
 number_if most id rows = if_some (number_up_to most) (text_at id rows)
 
@@ -86,9 +86,8 @@ is_host_name (byte ∷ bytes) = list_all is_host_byte (byte ∷ bytes)
 abbrev pub host_names_of : List Text → Option (List Text)
 host_names_of names = if list_all is_host_name names then Some names else None
 
--- States which faults the program may report for an option that should have the value `due`.
--- `Memory` (out of memory) is always allowed, other faults only if no valid value exists (`due` is
--- None).
+-- States which faults the program may report for an option whose specified value is `due`. `Memory`
+-- (out of memory) is always allowed, other faults only if no valid value is given (`due` is None).
 abbrev pub IsDue : {A : Type 0} → ValueFault → Option A → Type 0
 IsDue fault.Memory due = ⊤
 IsDue (fault.Missing option) due = None ≡ due
@@ -102,8 +101,8 @@ IsDue (fault.Without option other) due = None ≡ due
 IsDue (fault.Device part fault) due = None ≡ due
 IsDue (fault.HostName word) due = None ≡ due
 
--- States that a function reads an option correctly. It returns the required value `due`, or a fault
--- that is allowed for this option.
+-- States that a function reads an option correctly. It returns the specified value `due`, or a
+-- fault that is allowed for this option.
 abbrev pub Reads : {T A : Type 0} → (T → A) → Option A → Result T ValueFault → Type 0
 Reads seen due result =
     MatchResult result (λ value. Some (seen value) ≡ due) (λ fault. IsDue fault due)

@@ -21,9 +21,10 @@ pub struct FormWords<'a> {
 pub enum Sealing<'a> {
     /// The audit uses no seal (a digest of a file's past).
     Nothing,
-    /// The audit prints a seal (a digest of its past) for the audited file.
+    /// The audit prints a seal (a digest of the file's past) for the audited file.
     Print,
-    /// The audit compares the file with the seal (a digest of its past) at this path.
+    /// The audit compares the file with the seal (a digest of the file's past) that is stored at
+    /// this path.
     Against(&'a str),
 }
 
@@ -53,7 +54,7 @@ pub enum CommandLine<'a> {
     /// Executes the commands in the lines of standard input. The idempotency key of each line is
     /// `caller` and the line's number, so a retry of a line is not executed again. `devices` has
     /// the addresses of the devices whose counters the commands read. With `only_read`, the lines
-    /// are parsed but not executed.
+    /// are executed on a temporary copy of the file, so nothing is recorded.
     Enter {
         db: &'a str,
         caller: &'a str,
@@ -68,8 +69,8 @@ pub enum CommandLine<'a> {
         connections: u32,
         host_names: Vec<&'a str>,
     },
-    /// Executes one round of polls of a device, with one poll for each Modbus read of its reading
-    /// plan.
+    /// Executes one round of polls of a device, with one poll for each Modbus read of the device's
+    /// reading plan.
     Round {
         db: &'a str,
         device: &'a str,
@@ -109,9 +110,9 @@ pub enum CommandLine<'a> {
         to: &'a str,
         until: Option<u32>,
     },
-    /// Audits the rows of a file, and compares them with a seal (a digest of a file's past). For
-    /// several files, the oldest first, also checks that each file continues the previous file. A
-    /// seal requires a single file.
+    /// Audits the rows of a database file. If requested, also prints a seal (a digest of the file's
+    /// past), or compares the file with a seal. For several files, the oldest first, also checks
+    /// that each file continues the previous file. A seal requires a single file.
     Audit {
         dbs: Vec<&'a str>,
         seal: Sealing<'a>,
@@ -149,7 +150,8 @@ pub enum CommandLine<'a> {
         /// The period after which the command begins a new file.
         carry: Option<Period>,
         /// The number of earlier files whose energy the command also reports. This option is not
-        /// allowed with several files, because the command then reports the energy of all of them.
+        /// allowed with several files, because the command then reports the energy of all these
+        /// files.
         earlier: Option<u32>,
         host_names: Vec<&'a str>,
         /// The maximum size of the stored accepted requests, in megabytes.

@@ -287,7 +287,7 @@ fn enter_line<'a>(alloc: Global, found: &ArgMatches<'a>) -> Result<CommandLine<'
 }
 
 // Parses the number of earlier files whose energy `run` also reports. The option requires `--carry`
-// and a single file. With several files, `run` reports the energy of all of them.
+// and a single database file. With several files, `run` reports the energy of all these files.
 fn earlier_if<'a>(
     found: &ArgMatches<'a>,
     are_several: bool,

@@ -43,7 +43,7 @@ pub fn number<'a>(
     number_in(option, word)
 }
 
-// Returns the number in the value of an optional option, or None if the option is not given.
+// Returns the number in the value of an option, or None if the option is not given.
 pub fn number_if<'a>(
     found: &ArgMatches<'a>,
     option: NumberOption<'static>,
@@ -85,7 +85,7 @@ fn number_in<'a>(option: NumberOption<'static>, word: &'a str) -> Result<u32, Va
     }
 }
 
-// Returns the value of an optional option, or None if the option is not given.
+// Returns the value of an option that need not be given, or None if it is not given.
 pub fn text_if<'a>(found: &ArgMatches<'a>, option: &str) -> Option<&'a str>
     ensures { option_map (λ text. text.now) result ≡ text_at option.now (rows_in found.now) }
 {
@@ -170,7 +170,7 @@ fn other_than_hosts<'a>(names: &[&'a str]) -> Option<&'a str>
 }
 
 // Returns the values of `--host-name`: further names that an HTTP request's Host header may have.
-// Fails if one of them is not a host name.
+// Fails if one of the values is not a host name.
 pub fn host_names<'a>(alloc: Global, found: &ArgMatches<'a>) -> Result<Vec<&'a str>, ValueFault<'a>>
     ensures { Reads (λ names. texts names.items)
         (host_names_of (texts_at (codes "host-name") (rows_in found.now))) result }

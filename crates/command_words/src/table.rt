@@ -84,7 +84,7 @@ pub const TIMEOUT: NumberOption<'static> = NumberOption {
     most: 60,
 };
 
-/// The words that the options for a report's period, unit and output format accept.
+/// The words that the option for a report's period accepts.
 pub const PERIODS: &[&str] = &["day", "month", "year"];
 
 pub const UNITS: &[&str] = &["mwh", "kwh"];
@@ -251,7 +251,7 @@ const ENTER: CommandText<'static> = CommandText {
         OptionText {
             name: "only-read",
             value: Value::Letter('n'),
-            help: "Only reports bad lines and lines already entered",
+            help: "Prints the same answers, but records nothing",
         },
     ],
 };
@@ -529,12 +529,12 @@ const COMPLETIONS: CommandText<'static> = CommandText {
     }],
 };
 
-// The first commands of the help text, in its order.
+// The commands that the help text lists first, in the order of the help text.
 const COMMANDS: &[CommandText<'static>] = &[
     REPLAY, PLAN, CHAIN, SCAN, CREATE, ENTER, SERVE, ROUND, REPORT,
 ];
 
-// The remaining commands of the help text, in its order.
+// The commands that the help text lists last, in the order of the help text.
 const LATER_COMMANDS: &[CommandText<'static>] = &[
     BACKUP,
     RECOVER,

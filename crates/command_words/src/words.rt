@@ -14,7 +14,7 @@ use clap::error::ErrorKind;
 use clap::{ArgMatches, Error};
 use std::alloc::Global;
 
-// Parses the arguments with `clap`, by the table of commands and options.
+// Parses the arguments with `clap`, according to the table of commands and options.
 fn found_in<'a>(alloc: Global, words: &'a [&'a str]) -> Result<ArgMatches<'a>, Error>
     ensures found { IfOk result (IsFound words.entry.now) }
     ensures fails { FailsBy (errors_of (texts words.entry.now)) result }

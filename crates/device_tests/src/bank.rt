@@ -65,7 +65,7 @@ fn values_are_kept_where_there_are_addresses(rt: HostRuntime) {
 }
 
 // An area (address range) that cannot be added to a device with ten coils from address 0, its
-// fault, and the fault's number.
+// fault, and the fault's numeric code.
 struct Refused {
     area: Area,
     fault: BankFault,

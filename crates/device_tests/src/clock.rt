@@ -3,8 +3,9 @@ use crate::first_poll::first_poll;
 use crate::session_script::{Event, GOOD, Line, play};
 use poll_core::{ClockBack, Closing, Outcome, StartFault};
 
-/// The events of a polling session after it refused an event with an earlier time. It also refuses
-/// to start a poll at such a time, and the response still completes the first poll.
+/// The events of a polling session that has refused an event with an earlier time than the previous
+/// event. The session also refuses to start a poll at such a time. The response still completes the
+/// first poll.
 static AFTERWARDS: [Line; 2] = [
     Line {
         event: Event::Refused {

@@ -100,8 +100,8 @@ static POINTS: [(Point<'static>, &str); 6] = [
     (Point::Text(Text { words: &[0, 0, 0] }), ""),
 ];
 
-// Returns whether a writer with room for `room` bytes received that part of a point's text, and the
-// result is the expected one.
+// Returns whether a writer with room for `room` bytes received the first `room` bytes of a point's
+// text, and the result is the expected one.
 fn cut_point(
     rt: &impl Abort,
     alloc: Global,

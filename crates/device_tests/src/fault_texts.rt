@@ -254,7 +254,7 @@ const FAULTY: [FaultyRow; 2] = [
     },
 ];
 
-// Returns the first `count` faulty rows of a list, for the fault of a point list.
+// Returns the fault of a point list with the first `count` of the example faulty rows.
 fn faulty(rt: &impl Abort, alloc: Global, count: usize) -> FaultyRows {
     let mut rows = Vec::new(alloc);
     for row in FAULTY.iter().take(count) {

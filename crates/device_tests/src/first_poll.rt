@@ -167,7 +167,7 @@ fn a_reply_in_time_answers(rt: HostRuntime) {
     }
 }
 
-/// A frame that is no valid response to a pending poll does not complete the poll.
+/// A frame that is not a valid response to a pending poll does not complete the poll.
 #[test]
 fn other_frames_are_no_answers(rt: HostRuntime) {
     for lines in &OTHER_FRAMES {

@@ -11,8 +11,8 @@ static ASKED: Request<'static> = Request::ReadHolding {
     quantity: 3,
 };
 
-// The result of feeding bytes to a frame reader. `anew` is true for a new reader, otherwise the
-// reader of the previous entry continues.
+// A test case: bytes that are fed to a frame reader, and the expected result. If `anew` is true,
+// the reader is new, otherwise the reader of the previous case continues.
 struct Feed {
     anew: bool,
     bytes: &'static [u8],

@@ -7,9 +7,9 @@ use std::alloc::Global;
 use std::process::Abort;
 use sun_points::{PointType, Scale};
 
-// A SunSpec point at address 0 with the name of its scale point. Its type may or may not allow a
-// scale. A scale point `s` (type sunssf) is at `address`, and `is_list` is true if both points form
-// a valid list.
+// A test case: a SunSpec point at address 0, whose type allows a scale if `takes_scale` is true,
+// and the name of its scale point. A scale point `s` (type sunssf) is at `address`. `is_list` is
+// true if both points form a valid list.
 struct Group {
     takes_scale: bool,
     scale: &'static str,

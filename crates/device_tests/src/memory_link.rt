@@ -45,8 +45,8 @@ fn an_output_is_given_in_pieces(rt: HostRuntime) {
     assert!(rt; link.given() == [7, 8, 9, 5, 6].as_slice());
 }
 
-// Returns whether, of two reads and two writes in turn, exactly the call with the number `fails`
-// fails.
+// Returns whether, of two reads and two writes that alternate, exactly the call with the number
+// `fails` (counted from 1) fails.
 fn is_reported(fails: u64) -> bool {
     let mut output = [0; 4];
     let mut link = MemoryLink::new(&[1, 2], &mut output, 1, Some(fails));
@@ -58,7 +58,7 @@ fn is_reported(fails: u64) -> bool {
         && (link.failures(), link.takes()) == (1, 2)
 }
 
-/// A test can make any single call of the connection in memory fail.
+/// A test can make any single call to the connection in memory fail.
 #[test]
 fn each_call_fails_in_turn(rt: HostRuntime) {
     for fails in 1..5u64 {

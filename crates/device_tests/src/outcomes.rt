@@ -40,7 +40,8 @@ static FAULTS: [(StartFault, u8); 4] = [
     (StartFault::Closed, 4),
 ];
 
-/// Each outcome of a poll has its expected number and its expected code.
+/// Each outcome of a poll has its expected numeric code, and its expected detail code (such as a
+/// Modbus exception code).
 #[test]
 fn outcomes_have_numbers(rt: HostRuntime) {
     for (i, it) in OUTCOMES.iter().enumerate() {
@@ -49,7 +50,7 @@ fn outcomes_have_numbers(rt: HostRuntime) {
     }
 }
 
-/// Each fault with which a poll can't start has its expected number.
+/// Each fault with which a poll can't start has its expected numeric code.
 #[test]
 fn refusals_have_numbers(rt: HostRuntime) {
     for (fault, number) in &FAULTS {
@@ -57,8 +58,8 @@ fn refusals_have_numbers(rt: HostRuntime) {
     }
 }
 
-/// A malformed outcome has the number of the response's fault as its code, and a lost outcome has
-/// the number of its cause.
+/// The detail code of a malformed outcome is the numeric code of the response's fault. The detail
+/// code of a lost outcome is the numeric code of its cause.
 #[test]
 fn malformations_and_losses_follow_their_causes(rt: HostRuntime) {
     assert!(rt; Malformation::from(ReplyFault::WrongEcho).number() == 4);

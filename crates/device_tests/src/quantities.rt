@@ -5,7 +5,7 @@ use crate::requests::{self, is_written_as};
 use mb_wire::{Request, decode_reply, decode_request};
 
 // A request PDU: its function code, the number after its address, its byte count, and its length in
-// bytes. The last number is the PDU's fault, or 0 if the PDU is valid.
+// bytes. The last number is the numeric code of the PDU's fault, or 0 if the PDU is valid.
 static REQUESTS: [(u8, u16, u8, usize, u8); 36] = [
     // Requests that read coils and discrete inputs.
     (1, 0, 0, 5, 3),
@@ -65,8 +65,8 @@ pub(crate) fn request_of(
     pdu
 }
 
-// Returns the number of the PDU's fault as a request, or 0 if the PDU decodes and encodes to the
-// same bytes.
+// Returns the numeric code of the PDU's fault as a request, or 0 if the PDU decodes and encodes to
+// the same bytes.
 fn reported_quantity(pdu: &[u8]) -> Option<u8> {
     if is_written_as(pdu, pdu) {
         Some(0)
@@ -86,7 +86,7 @@ fn requests_have_lawful_quantities(rt: HostRuntime) {
 }
 
 // The function code and quantity of a read, and the byte count and length in bytes of a response
-// PDU. The last number is the response's fault, or 0 if the PDU is valid.
+// PDU. The last number is the numeric code of the response's fault, or 0 if the PDU is valid.
 static REPLIES: [(u8, u16, u8, usize, u8); 20] = [
     (1, 1, 1, 3, 0),
     (1, 8, 1, 3, 0),
@@ -117,8 +117,8 @@ fn reply_of(function: u8, count: u8) -> [u8; 254] {
     pdu
 }
 
-// Returns the number of the PDU's fault as a response, or 0 if the PDU decodes and encodes to the
-// same bytes.
+// Returns the numeric code of the PDU's fault as a response, or 0 if the PDU decodes and encodes to
+// the same bytes.
 fn reported_response(asked: &[u8], pdu: &[u8]) -> Option<u8> {
     if comes_back(asked, pdu) == Some(true) {
         return Some(0);

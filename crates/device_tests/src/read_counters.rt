@@ -19,8 +19,8 @@ static AREAS: [Area; 2] = [
     },
 ];
 
-// Registers of a device: a counter of input registers with scales before and after it, a counter of
-// holding registers, and invalid scales.
+// Registers of a device: a counter in input registers with scale registers before and after it, a
+// counter in holding registers, and invalid scales.
 static WORDS: [(Kind, u16, u16); 9] = [
     (Kind::Holding, 40000, 1),
     (Kind::Holding, 40001, 2),
@@ -110,7 +110,8 @@ fn a_counter_is_read_with_its_scale(rt: HostRuntime) {
     }
 }
 
-// Reads the counter whose scale register follows it, from a simulated device with injected faults.
+// Reads a counter whose scale register follows the counter, from a simulated device with injected
+// faults.
 fn tricked(
     rt: &impl Abort,
     alloc: Global,
@@ -156,8 +157,8 @@ static REQUESTS: [u8; 24] = [
     0, 1, 0, 0, 0, 6, 7, 4, 0x9C, 0x4A, 0, 2, 0, 2, 0, 0, 0, 6, 7, 4, 0x9C, 0x4A, 0, 2,
 ];
 
-// Asserts the result of reading a counter over a connection. One call of the connection may fail.
-// Returns the bytes written to the connection.
+// Asserts the result of reading a counter over a connection. If `failing` is a number, the call to
+// the connection with this number fails. Returns the bytes written to the connection.
 fn assert_read(
     rt: &impl Abort,
     alloc: Global,

@@ -39,7 +39,7 @@ fn examples_of_the_standard_come_back(rt: HostRuntime) {
 }
 
 // Invalid responses to a read of holding registers, and then invalid responses to a write of a
-// coil. Each has its expected fault and the fault's number.
+// coil. Each has its expected fault and the fault's numeric code.
 static READ_FAULTS: [(&[u8], ReplyFault, u8); 6] = [
     (&[0x84, 2], ReplyFault::WrongFunction, 1),
     (&[4, 6, 0, 1, 0, 2, 0, 3], ReplyFault::WrongFunction, 1),
@@ -54,13 +54,13 @@ static ECHO_FAULTS: [(&[u8], ReplyFault, u8); 2] = [
     (&[5, 0, 172, 0xFF], ReplyFault::WrongLength, 2),
 ];
 
-// Returns the fault of a PDU as a response to a request, and the fault's number.
+// Returns the fault of a PDU as a response to a request, and the fault's numeric code.
 fn fault_in(request: &Request<'_>, pdu: &[u8]) -> Option<(ReplyFault, u8)> {
     let fault = decode_reply(request, pdu).err()?;
     Some((fault, fault.number()))
 }
 
-/// Each fault of a Modbus response has its expected number.
+/// Each fault of a Modbus response has its expected numeric code.
 #[test]
 fn faults_have_their_numbers(rt: HostRuntime) {
     for (pdu, fault, number) in READ_FAULTS {

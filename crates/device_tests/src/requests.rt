@@ -2,7 +2,7 @@
 use crate::examples::EXAMPLES;
 use mb_wire::{decode_request, encode_request};
 
-// PDUs that are not valid requests, and the numbers of their faults.
+// PDUs that are not valid requests, and the numeric codes of their faults.
 static FAULTS: [(&[u8], u8); 12] = [
     (&[0x2B, 0x0E], 1),
     (&[0x83, 0], 1),
@@ -61,13 +61,13 @@ fn a_request_has_its_function_and_address(rt: HostRuntime) {
     assert!(rt; head_of(&[1, 0, 19, 0, 19]) == Some((1, 19)));
 }
 
-/// Returns the number of the PDU's fault as a request, or `None` if the PDU is valid.
+/// Returns the numeric code of the PDU's fault as a request, or `None` if the PDU is valid.
 pub(crate) fn fault_in(pdu: &[u8]) -> Option<u8> {
     let fault = decode_request(pdu).err()?;
     Some(fault.number())
 }
 
-/// Each fault of a Modbus request has its expected number.
+/// Each fault of a Modbus request has its expected numeric code.
 #[test]
 fn faults_have_their_numbers(rt: HostRuntime) {
     for (i, (pdu, number)) in FAULTS.iter().enumerate() {

@@ -39,7 +39,8 @@ static NAMES: [(u16, &str, Option<&str>); 8] = [
     (104, "WH", None),
 ];
 
-// A scaled point of a known model has the name of its scale point. Other points have none.
+// For a scaled point of a known model, the name of its scale point is found. Other points have no
+// scale point.
 #[test]
 fn points_name_their_scale_points(rt: HostRuntime) {
     for (id, name, scale) in &NAMES {

@@ -80,9 +80,9 @@ fn assert_image(rt: &impl Abort, alloc: Global, bank: Bank, requests: u64) -> Im
     scanned.found.ok().expect(rt, "no scan")
 }
 
-// A scan reads complete SunSpec models with ten requests: one for the mark, three for model
-// headers, three for the models' registers, two for the last header, and one for the header's ID
-// alone.
+// A scan reads complete SunSpec models with ten requests. One is for the mark, three are for model
+// headers, and three for the models' registers. The header of the end model is requested twice,
+// because its length register is missing, and then its ID alone.
 #[test]
 fn full_models_are_read(rt: HostRuntime) {
     let scanned = scan_bank(rt.alloc(), full_bank(&rt, rt.alloc()), &[]);

@@ -80,7 +80,8 @@ static CASES: [Case; 11] = [
         takes: 34,
         failures: 0,
     },
-    // Connections without a failing call, and connections on which each call fails in turn.
+    // For each of the five calls to a connection, a case in which only this call fails. In the last
+    // case, no call fails.
     Case {
         input: TWO_READS,
         piece: 12,
@@ -173,8 +174,8 @@ fn is_over(server: &mut Server, link: &mut MemoryLink<'_>, bank: &mut Bank) -> b
     served == Err(ServeFault::Garbled) && (link.given().len(), link.takes()) == before
 }
 
-// Returns whether a server has the expected results. Only after a fault, it must return `Garbled`
-// again.
+// Returns whether a server has the expected results. If the server returned a fault, and only then,
+// its next call must return `Garbled`.
 fn is_served(rt: &impl Abort, alloc: Global, case: &Case) -> bool {
     let mut bank = bank_with_nine(rt, alloc);
     let mut output = [0; 40];
@@ -223,8 +224,9 @@ fn a_full_output_breaks_an_answer_off(rt: HostRuntime) {
     assert!(rt; bank.get(Kind::Holding, 0) == Some(5));
 }
 
-// The number of the connection's call that fails, if any, while a device serves one connection and
-// cuts its first response off after four bytes. Then the expected result and the bytes written.
+// A device serves one connection, and cuts its first response off after four bytes. Each case has
+// the number of the failing call to the connection, if any, the expected result, and the bytes
+// written.
 static ANSWERS: [(Option<u64>, Result<u64, ServeFault>, &[u8]); 2] = [
     (None, Ok(1), &[0, 7, 0, 0]),
     (Some(1), Err(ServeFault::Read), &[]),
@@ -250,7 +252,7 @@ static NUMBERS: [(ServeFault, u8); 4] = [
     (ServeFault::TurnsUsed, 4),
 ];
 
-/// Each fault of a Modbus server has its expected number.
+/// Each fault of a Modbus server has its expected numeric code.
 #[test]
 fn serve_faults_have_their_numbers(rt: HostRuntime) {
     for (fault, number) in NUMBERS {

@@ -198,8 +198,8 @@ static CUTS: [Case; 7] = [
         takes: 1,
         register: 9,
     },
-    // Injected faults don't count a frame of another protocol. A changed transaction identifier
-    // wraps to 0 after 65535, and a changed unit identifier after 255.
+    // The frame numbers of injected faults don't count a frame of another protocol. A changed
+    // transaction identifier wraps to 0 after 65535, and a changed unit identifier after 255.
     Case {
         tricks: &[(1, Trick::Id)],
         input: HIGHEST,

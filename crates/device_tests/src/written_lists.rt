@@ -26,9 +26,9 @@ wh,3,0,40094,acc32,whsf
 whsf,3,0,40096,sunssf,
 ";
 
-// Texts of point lists, with the texts that are written for them. They have each kind of point,
-// text from a spreadsheet program, only a header, four spellings of one list, and the limits of
-// numbers.
+// Texts of point lists, with the texts that are written for them. These texts have each kind of
+// point, text from a spreadsheet program, only a header, four spellings of one list, and the limits
+// of numbers.
 static TEXTS: [Rewritten; 8] = [
     Rewritten {
         text: EVERY_KIND,

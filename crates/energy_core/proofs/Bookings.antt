@@ -1,5 +1,5 @@
--- Lemmas on recorded meter entries: a recorded entry was allowed to follow the last entry, and all
--- entries together obey the rules again.
+-- Lemmas on recorded meter entries. Each recorded entry may follow the entry before it, and with
+-- the new entry, all entries of the meter still obey the rules (`IsAccount`).
 use Rattle.std.proofs.Common.{◌≡◌, ℕ, ◌+◌, ◌*◌, ◌^◌, ◌<◌, ◌≤◌, false, nat_lt, nat_le, List, [], ◌∷◌, Option, Some, None, Ok, ap, subst, refl, ◌∙◌, arith}
 use Rattle.std.proofs.lemmas.Bool.Decides.{nat_tests}
 use Rattle.std.proofs.lemmas.Int.{ints}

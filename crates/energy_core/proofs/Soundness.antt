@@ -49,8 +49,8 @@ accounts_are_sound range opening es last total below scale h =
       steps = shareable range opening es h.follow (omega (arith, h.within));
     }
 
--- True if the entries of an installed meter obey the rules for entries. The counter's state and the
--- total energy are those after the entries.
+-- True if a meter's entries obey the rules (`IsAccount`), with the counter's state and the total
+-- energy that follow from the entries.
 abbrev HasAccount : ℕ → Last → List Entry → Type 0
 HasAccount range opening es = IsAccount range opening es (last_of opening es) (whole_energy range opening es)
 

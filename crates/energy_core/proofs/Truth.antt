@@ -43,8 +43,8 @@ accepted range terms last reading none =
       ),
     ))
 
--- If a counter could not have made a full turn in the time passed, then it made less than a full
--- turn.
+-- If a power of `ceiling` can advance a counter by `d` counts but not by a full turn, `d` is less
+-- than a full turn.
 less_than_a_turn : (ceiling unit seconds range d : ℕ) → can_count ceiling unit seconds d ≡ true → can_count ceiling unit seconds range ≡ false → d < range
 less_than_a_turn ceiling unit seconds range d slow long =
     elim (cases_lt d range) [
@@ -65,8 +65,8 @@ not_beyond_range range count pos = let below : count % range < range = mod-lt co
 abbrev terms_after : (ceiling : ℕ) → ℤ → Item → Item → Terms
 terms_after ceiling sf first a = record { ceiling = ceiling; total = advance sf first a }
 
--- If no cause except `TooFast` and `NotBelowRange` could reject a reading that shows the true
--- count, then the reading is accepted with the true energy.
+-- Suppose that a reading shows the true count, and none of the causes to reject it applies. Then it
+-- is accepted with the true energy. The causes `TooFast` and `NotBelowRange` need not be checked.
 one_reading : (range ceiling : ℕ) (sf : ℤ) (first a b : Item) → 0 < range → a.count ≤ b.count
     → IsTrue (can_count ceiling (unit_of sf) (b.at - a.at) (b.count - a.count))
     → ((c : Cause) → c ≢ cause.TooFast → c ≢ cause.NotBelowRange
@@ -142,8 +142,8 @@ next range ceiling sf first b items es pos on h far =
 nothing_yet : (v u n : ℕ) → (v + 0) - (v + 0) ≡ (n - n) * u
 nothing_yet v u n = let z : n - n ≡ 0 = omega arith in let m : (n - n) * u ≡ 0 * u = ap (λ k. k * u) z in omega arith
 
--- The verdict on the next reading of a meter is the same after its recorded entries as after its
--- true counts.
+-- If the recorded entries match the true counts (`Booked`), the next reading gets the same verdict
+-- after the entries as after the true counts.
 verdict_next : (range ceiling : ℕ) (sf : ℤ) (first b : Item) (items : List Item) (es : List Entry) (v : Verdict)
     → Booked range ceiling sf first items es
     → verdict_of range (terms_after ceiling sf first (newest first items)) (shown range sf (newest first items)) (reported range sf b) ≡ v

@@ -28,8 +28,8 @@ pub distance-shown : (range a d : ℕ) → 0 < range → d < range → distance 
 distance-shown range a d pos less =
     rw (← mod-add-mod a range d) (went_from range (a % range) d ((a % range + d) % range) less (mod-lt a pos) (wrapped range (a % range) d less (mod-lt a pos)))
 
--- The count of a reading reaches the counter's true count if one full turn is added whenever the
--- counter shows less than before.
+-- A shown count, plus one full turn if it is less than the count before, equals the count before
+-- plus the counter's advance.
 pub turned : (range from to : ℕ) → from < range → to < range
     → (from ≤ to + (if nat_lt to from then 1 else 0) * range)
     × (to + (if nat_lt to from then 1 else 0) * range ≡ from + distance range from to)

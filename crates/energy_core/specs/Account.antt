@@ -32,7 +32,8 @@ last_of opening [] = opening
 last_of opening (e ∷ es) = after (last_of opening es) e
 
 -- The count that the counter reached at an entry. For a reading (`Step`), the count includes the
--- full turns. For a reset or rescale (`Change`), it is the count before the counter was set.
+-- full turns since the last entry. For a reset or rescale (`Change`), it is the count before the
+-- counter was set.
 abbrev pub reached : (range : ℕ) → Entry → ℕ
 reached range (entry.Step at raw rolls) = raw + rolls * range
 reached range (entry.Change at before new sf) = before
@@ -51,8 +52,8 @@ abbrev pub steps_of : (range : ℕ) → Last → List Entry → List Step
 steps_of range opening [] = []
 steps_of range opening (e ∷ es) = step_to range (last_of opening es) e ∷ steps_of range opening es
 
--- The energy in mWh of all full turns of the counter that entries record. It includes the energy of
--- the count that the counter showed before each reset or rescale.
+-- The energy in mWh of all full turns of the counter that the entries record. The energy of the
+-- counts that the counter showed before resets and rescales is added.
 abbrev pub recorded : (range : ℕ) → Last → List Entry → ℕ
 recorded range opening [] = 0
 recorded range opening (entry.Step at raw rolls ∷ es) =
@@ -66,9 +67,9 @@ set_anew [] = 0
 set_anew (entry.Step at raw rolls ∷ es) = set_anew es
 set_anew (entry.Change at before new sf ∷ es) = new * unit_of sf + set_anew es
 
--- The total energy of an installed meter, in mWh. This is the last value less the first, plus one
--- full range for each recorded rollover. For each reset or rescale, the value before it is added,
--- and the value after it is subtracted.
+-- The total energy of an installed meter, in mWh. This is the counter's last value less its first
+-- value, plus one full range for each recorded rollover. For each reset or rescale, the value
+-- before it is added, and the value after it is subtracted.
 abbrev pub whole_energy : (range : ℕ) → Last → List Entry → ℕ
 whole_energy range opening es =
     (value_of (last_of opening es) + recorded range opening es) - (value_of opening + set_anew es)
@@ -84,8 +85,8 @@ NeverFalls range opening (e ∷ es) =
 abbrev pub IsScale : ℤ → Type 0
 IsScale sf = (MIN_SCALE ≤ℤ sf) × (sf ≤ℤ MAX_SCALE)
 
--- True if the scale factor that a `Change` (a reset or rescale) sets is from -3 to 3. A `Step` (a
--- reading) sets no scale factor.
+-- True for a `Step` (a reading), which sets no scale factor. True for a `Change` (a reset or
+-- rescale) if its scale factor is from -3 to 3.
 abbrev pub HasScale : Entry → Type 0
 HasScale (entry.Step at raw rolls) = Unit {0}
 HasScale (entry.Change at before new sf) = IsScale sf
@@ -95,8 +96,9 @@ abbrev pub CanBeShown : (range : ℕ) → Entry → Type 0
 CanBeShown range (entry.Step at raw rolls) = raw < range
 CanBeShown range (entry.Change at before new sf) = (before < range) × (new < range)
 
--- True if an entry may follow the counter's state `last`. Its count does not go back, its time is
--- later, and the time between both, the scale factor and the counts are within their limits.
+-- True if an entry may follow the counter's state `last`: its count is not less, and its time is
+-- later. The time between `last` and the entry, the entry's scale factor and its counts are within
+-- their limits.
 pub record Follows (range : ℕ) (last : Last) (e : Entry) : Type 0 where
   pub rises : last.raw ≤ reached range e
   pub later : last.at < moment_of e
@@ -109,9 +111,9 @@ abbrev pub AllFollow : (range : ℕ) → Last → List Entry → Type 0
 AllFollow range opening [] = Unit {0}
 AllFollow range opening (e ∷ es) = Follows range (last_of opening es) e × AllFollow range opening es
 
--- States that `last` is the counter's state after the opening (the first entry) and the entries
--- `es`. `total` is the energy in mWh, within its limit. Each entry may follow the entries before
--- it.
+-- States that each entry may follow the entries before it. `last` is the counter's state after the
+-- opening (the first entry) and the entries `es`. `total` is the meter's total energy in mWh, and
+-- is within its limit.
 pub record IsAccount (range : ℕ) (opening : Last) (es : List Entry) (last : Last) (total : ℕ) : Type
     0 where
   pub last_is : last ≡ last_of opening es

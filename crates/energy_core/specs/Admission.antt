@@ -10,7 +10,7 @@ use Rattle.energy_core.specs.declared.admission.TermFault.{TermFault}
 use Rattle.energy_core.specs.declared.admission.TermFault.TheVariants as fault
 use Rattle.energy_core.specs.Account.{intervals_touched, moment_of, after, reached, energy_of, step_to, Follows, IsAccount}
 
--- The number of each fault of a manual entry, from 1 to 6.
+-- The numeric code of each fault of a manual entry, from 1 to 6.
 abbrev pub fault_number : TermFault → ℕ
 fault_number fault.NegativeStep = 1
 fault_number fault.NotLater = 2
@@ -49,33 +49,34 @@ abbrev pub faults : List TermFault
 faults = fault.NegativeStep ∷ fault.NotLater ∷ fault.SpanTooLong ∷ fault.TotalFull ∷ fault.BadScale
     ∷ fault.NotBelowRange ∷ []
 
--- The fault of an entry as an error. Without a fault, the counter's state after the entry, and the
--- energy and times since the last entry.
+-- The result of checking an entry. A fault is returned as an error. Without a fault, the result is
+-- the counter's state after the entry, and the step (energy and times) from the last entry.
 abbrev pub answered : (range : ℕ) → Last → Entry → Option TermFault → Result (Last × Step) TermFault
 answered range last e (Some fault) = Err fault
 answered range last e None = Ok (after last e, step_to range last e)
 
--- The result of a manual entry: the first fault that applies. Without a fault, the counter's state
--- after the entry, and the energy and times since the last entry. The ceiling on power is not
--- checked.
+-- The result of a manual entry: the first fault that applies, as an error. Without a fault, it is
+-- the counter's state after the entry, and the step (energy and times) from the last entry. The
+-- ceiling on power is not checked.
 abbrev pub entered : (range total : ℕ) → Last → Entry → Result (Last × Step) TermFault
 entered range total last e = answered range last e (find (refuses range total last e) faults)
 
--- States that after the entries `es`, the counter's state is `r.0`. The total energy has grown by
--- the energy of `r.1`, the step from the last entry.
+-- States that a meter's entries obey the rules (`IsAccount`). After the entries, the pair's `Last`
+-- is the counter's state, and the total energy is `total` plus the energy of the pair's `Step`.
 abbrev pub ContinuesAccount : (range : ℕ) → Last → List Entry → (total : ℕ) → Last × Step → Type 0
 ContinuesAccount range opening es total r = IsAccount range opening es r.0 (total + r.1.mwh)
 
--- States that if `answer` records the entry `e`, then `e` may follow earlier entries that obey the
--- rules. After these entries, `last` is the counter's state and `total` the energy.
+-- States that, if the earlier entries obey the rules (`IsAccount`) and the result records the new
+-- entry, then all entries obey the rules. `total` is the total energy before the new entry.
 abbrev pub AccountsGoOnBy : (range total : ℕ) → Last → Entry → Result (Last × Step) TermFault
     → Type 0
 AccountsGoOnBy range total last e answer = (opening : Last) (es : List Entry)
     → IsAccount range opening es last total
     → IfOk answer (ContinuesAccount range opening (e ∷ es) total)
 
--- States that the entry may follow the last entry and was recorded. `next` is the counter's state
--- after the entry, `step` ends at the entry, and the total energy is within its limit.
+-- States that an entry may follow the last entry, and was recorded correctly. `next` is the
+-- counter's state after the entry, and `step` the energy and times since the last entry. The total
+-- energy stays within its limit.
 pub record IsBooked (range total : ℕ) (last : Last) (e : Entry) (next : Last) (step : Step) : Type 0
   where
     pub next_is : next ≡ after last e

@@ -15,22 +15,23 @@ use Rattle.energy_core.specs.Verdict.{distance, verdict_of, IsPlausible}
 use Rattle.energy_core.specs.Admission.{entered, IsBooked}
 use Rattle.energy_core.specs.Readings.{entries_of_readings}
 
--- Theorem: the energies between consecutive entries, the opening value and the values that resets
--- and rescales set add up to the last value plus `recorded`. `recorded` is the energy of all full
--- turns and of the counts before resets and rescales.
+-- Theorem: if no entry's count is less than the count before it, two sums are equal. The first adds
+-- the energies between consecutive entries, the opening value, and the values that resets and
+-- rescales set. The second adds the last value, all full turns, and the values before resets and
+-- rescales.
 abbrev pub StepsAddUp : Type 0
 StepsAddUp = (range : ℕ) (opening : Last) (es : List Entry) → NeverFalls range opening es
     → sum_by (λ (s : Step). s.mwh) (steps_of range opening es) + value_of opening + set_anew es
     ≡ value_of (last_of opening es) + recorded range opening es
 
--- Theorem: the energies between the consecutive entries of an installed meter add up to its total
--- energy.
+-- Theorem: if no entry's count is less than the count before it, the energies between a meter's
+-- consecutive entries add up to its total energy.
 abbrev pub StepsAreTheWhole : Type 0
 StepsAreTheWhole = (range : ℕ) (opening : Last) (es : List Entry) → NeverFalls range opening es
     → sum_by (λ (s : Step). s.mwh) (steps_of range opening es) ≡ whole_energy range opening es
 
--- Theorem: `entered`, the check of manual entries, records an entry if and only if it may follow
--- `last` and the total energy stays within its limit.
+-- Theorem: `entered` (the check of entries) records an entry if and only if it may follow the last
+-- entry and the total stays within its limit.
 abbrev pub EnteredIsBooked : Type 0
 EnteredIsBooked = (range total : ℕ) (last : Last) (e : Entry) (next : Last) (step : Step)
     → (entered range total last e ≡ Ok (next, step)) ↔ IsBooked range total last e next step
@@ -77,7 +78,7 @@ pub record IsShareable (step : Step) : Type 0 where
   pub within : step.mwh ≤ MAX_TOTAL
 
 -- States that the recorded state of an installed meter is sound. The counter's count is below its
--- range, its scale factor is from -3 to 3, and no entry's count goes back.
+-- range, and its scale factor is from -3 to 3. No entry's count is less than the count before it.
 --
 -- The total energy is the sum of the energies between consecutive entries, and each of these
 -- energies can be divided among quarter-hour intervals.
@@ -89,15 +90,17 @@ pub record IsSound (range : ℕ) (opening : Last) (es : List Entry) (last : Last
   pub sum : total ≡ sum_by (λ (s : Step). s.mwh) (steps_of range opening es)
   pub steps : All IsShareable (steps_of range opening es)
 
--- Theorem: entries that obey the rules (`IsAccount`) have a sound state. This requires that the
--- opening (the first entry) has a count below the range and a scale factor from -3 to 3.
+-- Theorem: if a meter's entries obey the rules (`IsAccount`), the meter's state is sound
+-- (`IsSound`). The opening (the first entry) must have a count below the range and a scale factor
+-- from -3 to 3.
 abbrev pub AccountsAreSound : Type 0
 AccountsAreSound = (range : ℕ) (opening : Last) (es : List Entry) (last : Last) (total : ℕ)
     → opening.raw < range → IsScale opening.sf
     → IsAccount range opening es last total → IsSound range opening es last total
 
--- Theorem: after any list of a meter's readings, the entries that the accepted readings became obey
--- the rules (`IsAccount`).
+-- Theorem: an accepted reading becomes an entry of the meter. After any list of readings, the
+-- meter's entries obey the rules (`IsAccount`). The meter's first count must be below the counter's
+-- range.
 abbrev pub ReadingsKeepAccounts : Type 0
 ReadingsKeepAccounts = (range ceiling : ℕ) (opening : Last) (rs : List Reading)
     → opening.raw < range

@@ -1,5 +1,5 @@
--- A true run: the list of counts that a meter really made over time. The list begins with the
--- latest count, and does not contain the count at the meter's installation.
+-- A true run: the list of a meter's true counts over time. The list begins with the latest count,
+-- and does not contain the count at the meter's installation.
 use Rattle.std.specs.Prelude.{◌≡◌, ◌≢◌, ℕ, ℤ, ◌-◌, ◌*◌, ◌%◌, ◌<◌, ◌≤◌, IsTrue, false, List, [], ◌∷◌, map}
 use Rattle.energy_core.specs.declared.entries.Last.{Last}
 use Rattle.energy_core.specs.declared.entries.Step.{Step}
@@ -31,8 +31,8 @@ abbrev pub newest : Item → List Item → Item
 newest first [] = first
 newest first (b ∷ items) = b
 
--- True if the items can be the true counts of a meter. Times rise. Counts never fall, and never
--- rise faster than the ceiling (the greatest power) allows.
+-- True if the items can be the true counts of a meter: times rise, counts never fall, and counts
+-- never rise faster than the ceiling (the greatest power) allows.
 abbrev pub IsTrueRun : (ceiling : ℕ) → ℤ → Item → List Item → Type 0
 IsTrueRun ceiling sf first [] = Unit {0}
 IsTrueRun ceiling sf first (b ∷ items) =
@@ -46,9 +46,9 @@ IsTrueRun ceiling sf first (b ∷ items) =
 abbrev pub advance : ℤ → Item → Item → ℕ
 advance sf a b = (b.count - a.count) * unit_of sf
 
--- True if the meter is polled often enough, each reading shows a number other than 0, and the total
--- energy stays within its limit. Only the causes `TooFast` and `NotBelowRange` could still reject a
--- reading.
+-- True if no cause to reject a reading applies to any reading of the true counts. The causes
+-- `TooFast` and `NotBelowRange` are not checked. The meter is then polled often enough, no reading
+-- shows 0, and the total energy stays within its limit.
 abbrev pub IsReadOftenEnough : (range ceiling : ℕ) → ℤ → Item → List Item → Type 0
 IsReadOftenEnough range ceiling sf first [] = Unit {0}
 IsReadOftenEnough range ceiling sf first (b ∷ items) =

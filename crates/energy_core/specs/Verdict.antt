@@ -13,7 +13,7 @@ use Rattle.energy_core.specs.declared.verdicts.Verdict.TheVariants.{Accepted, He
 use Rattle.energy_core.specs.Value.{unit_of}
 use Rattle.energy_core.specs.Account.{intervals_touched}
 
--- The number under which each cause of a rejection is printed and stored.
+-- The numeric code under which each cause of a rejection is printed and stored.
 abbrev pub cause_number : Cause → ℕ
 cause_number cause.NotAccumulated = 1
 cause_number cause.ScaleChanged = 2

@@ -1,4 +1,4 @@
-//! Records or refuses the entries that an operator makes by hand for a meter.
+//! Records or refuses the manual entries of an operator for a meter.
 ghost use Rattle.std.specs.Prelude.{◌≡◌, ◌≤◌, ◌<◌, ◌+◌, ◌*◌, ◌≤ℤ◌};
 ghost use Rattle.std.specs.Prelude.{IfOk};
 ghost use Rattle.energy_core.specs.Admission.{AccountsGoOnBy, entered, is_beyond, has_bad_scale, fault_number};
@@ -30,7 +30,7 @@ pub enum TermFault {
 }
 
 impl TermFault {
-    /// Returns the fault's number, from 1 to 6.
+    /// Returns the fault's numeric code, from 1 to 6.
     pub fn number(self) -> u8
         ensures { result ≡ fault_number self }
     {
@@ -55,8 +55,8 @@ fn moment(entry: &Entry) -> u64
 }
 
 /// Returns the count that the counter reached at an entry. For a `Step` (a reading), the count
-/// includes the full turns. For a `Change` (a reset), it is what the counter showed before it was
-/// set.
+/// includes the full turns since the last entry. For a `Change` (a reset or rescale), it is the
+/// count before the counter was set.
 fn reach(range: u64, entry: &Entry) -> u64
     requires { range ≤ MAX_RANGE }
     ensures value { result ≡ reached range entry.now }
@@ -68,7 +68,8 @@ fn reach(range: u64, entry: &Entry) -> u64
     }
 }
 
-/// Returns the energy in mWh from the counter's last entry to `entry`, whose count is not less.
+/// Returns the energy in mWh from the counter's last entry to `entry`. The count of `entry` is at
+/// least the count at the last entry.
 pub(crate) fn energy(range: u64, last: &Last, entry: &Entry) -> u64
     requires range { range ≤ MAX_RANGE }
     requires scale_low { MIN_SCALE ≤ℤ last.now.sf }

@@ -1,4 +1,4 @@
-//! Corrections of a counter: readings by hand, readings at closing, resets and rescales.
+//! Corrections of a counter: manual readings, readings at closing, resets and rescales.
 ghost use Rattle.std.specs.Prelude.{◌≡◌, ◌≤◌, ◌<◌, ◌≤ℤ◌};
 ghost use Rattle.energy_core.specs.declared.entries.Entry.TheVariants as entry;
 ghost use Rattle.energy_core.specs.Admission.{entered};
@@ -9,7 +9,7 @@ use crate::entries::{Entry, Last, Step};
 use crate::limits::{MAX_SCALE, MAX_TOTAL, MIN_SCALE};
 use crate::verdicts::Terms;
 
-/// Records a reading by hand, or a reading at closing, after `rolls` full turns of the counter. The
+/// Records a manual reading, or a reading at closing, after `rolls` full turns of the counter. The
 /// ceiling (the meter's greatest power) is not checked.
 pub fn manual<C: Counter>(
     counter: &C,

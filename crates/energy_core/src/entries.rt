@@ -13,7 +13,7 @@ pub struct Last {
 /// installation).
 #[derive(Clone, Copy, PartialEq, Eq)]
 pub enum Entry {
-    /// A reading, a correction by hand or a closing. The counter reached `raw` after `rolls` full
+    /// A reading, a manual correction or a closing. The counter reached `raw` after `rolls` full
     /// turns.
     Step {
         at: u64,

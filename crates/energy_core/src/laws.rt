@@ -5,8 +5,8 @@ ghost use Rattle.energy_core.specs.Laws.{AcceptedIsPlausible, AcceptedIsEntered,
 ghost use Rattle.energy_core.specs.Laws.{AccountsGoOn, AccountsAreSound, ReadingsKeepAccounts};
 ghost use Rattle.energy_core.specs.TrueRun.{TruthIsBooked};
 
-/// Theorem: the energies between the consecutive entries of an installed meter add up to the
-/// meter's total energy.
+/// Theorem: if no entry's count is less than the count before it, the energies between consecutive
+/// entries add up to the meter's total energy.
 pub fn steps_add_up()
     ensures both_sides { StepsAddUp }
     ensures whole { StepsAreTheWhole }
@@ -40,14 +40,16 @@ pub fn accounts_go_on()
     ensures { AccountsGoOn }
 {}
 
-/// Theorem: entries that obey the rules (`IsAccount`) have a sound state. This requires that the
-/// opening (the first entry) has a count below the range and a scale factor from -3 to 3.
+/// Theorem: if a meter's entries obey the rules (`IsAccount`), the meter's state is sound
+/// (`IsSound`). The opening (the first entry) must have a count below the range and a scale factor
+/// from -3 to 3.
 pub fn accounts_are_sound()
     ensures { AccountsAreSound }
 {}
 
-/// Theorem: after any list of a meter's readings, the entries that the accepted readings became
-/// obey the rules (`IsAccount`).
+/// Theorem: an accepted reading becomes an entry of the meter. After any list of readings, the
+/// meter's entries obey the rules (`IsAccount`). The meter's first count must be below the
+/// counter's range.
 pub fn readings_keep_accounts()
     ensures { ReadingsKeepAccounts }
 {}

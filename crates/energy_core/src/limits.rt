@@ -6,7 +6,7 @@ pub const MIN_RANGE: u64 = 65_536;
 /// The greatest range of a counter, in counts: the range of a 32-bit counter.
 pub const MAX_RANGE: u64 = 4_294_967_296;
 
-/// The greatest count that a counter shows, which is the greatest number of 32 bits.
+/// The greatest count that a counter can show: the greatest 32-bit number.
 pub const MAX_SHOWN: u64 = 4_294_967_295;
 
 /// The least scale factor of a counter, at which a count is 1 mWh.

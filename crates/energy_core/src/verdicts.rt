@@ -51,7 +51,7 @@ pub enum Cause {
 }
 
 impl Cause {
-    /// Returns the number under which the cause of a rejection is printed and stored.
+    /// Returns the numeric code under which the cause of a rejection is printed and stored.
     pub fn number(self) -> u8
         ensures { result ≡ cause_number self }
     {
@@ -107,7 +107,8 @@ fn distance_between(range: u64, from: u64, to: u64) -> u64
     }
 }
 
-/// Returns the energy in mWh that an accepted reading adds, after `rolls` rollovers.
+/// Returns the energy in mWh that an accepted reading adds to the meter's total. `rolls` is the
+/// number of rollovers since the last entry.
 fn energy_to(range: u64, last: &Last, reading: &Reading, rolls: u8) -> u64
     requires range { range ≤ MAX_RANGE }
     requires from { last.now.raw < range }
@@ -127,7 +128,7 @@ fn energy_to(range: u64, last: &Last, reading: &Reading, rolls: u8) -> u64
 }
 
 /// Accepts a reading, or rejects the reading for the first cause that applies. The causes are
-/// checked in the order of their numbers 1, 2, 8, 3, 4, 5, 6, 7.
+/// checked in the order of their numeric codes 1, 2, 8, 3, 4, 5, 6, 7.
 pub fn judge<C: Counter>(counter: &C, terms: &Terms, last: &Last, reading: &Reading) -> Verdict
     requires ceiling_low { 1 ≤ terms.now.ceiling }
     requires ceiling_high { terms.now.ceiling ≤ MAX_CEILING }

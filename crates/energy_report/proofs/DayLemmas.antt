@@ -45,8 +45,8 @@ pairs parts text is =
     let P : List ℕ → Type 0 = λ xs. Pairs parts xs in
     subst P is (record { size = refl; first = refl; second = refl; century = refl; year = refl; month = refl; day = refl })
 
--- If a text has ten characters with hyphens at the indices 4 and 7, then it equals the list of
--- these ten characters.
+-- If a text has ten characters, with hyphens at the indices 4 and 7, then it consists of its other
+-- eight characters and the hyphens.
 ten : (xs : List ℕ) → length xs ≡ 10 → get_or xs 4 0 ≡ 45 → get_or xs 7 0 ≡ 45
     → get_or xs 0 0 ∷ get_or xs 1 0 ∷ get_or xs 2 0 ∷ get_or xs 3 0 ∷ 45 ∷ get_or xs 5 0 ∷ get_or xs 6 0 ∷ 45 ∷ get_or xs 8 0 ∷ get_or xs 9 0 ∷ []
     ≡ xs
@@ -120,7 +120,7 @@ same_pair a b is =
     let second : 48 + a % 10 ≡ 48 + b % 10 = ap (λ (xs : List ℕ). get_or xs 1 0) is in
     omega (arith, first, second)
 
--- If two dates, as numbers of two digits, have the same text of the form `YYYY-MM-DD`, then the
+-- If two dates (as numbers of two digits) have the same text of the form `YYYY-MM-DD`, then their
 -- numbers are equal.
 same_parts : (a b : Parts) (text : List ℕ) → parts_text a ≡ text → parts_text b ≡ text
     → (a.century ≡ b.century) × (a.year ≡ b.year) × (a.month ≡ b.month) × (a.day ≡ b.day)
@@ -133,8 +133,8 @@ same_parts a b text first second =
       same_pair a.day b.day (x.day ∙ sym y.day),
     )
 
--- If the calendar has a day with the numbers in a text of the form `YYYY-MM-DD`, then the text
--- represents this day.
+-- If the calendar has a day with the year, month and day in a text of the form `YYYY-MM-DD`, then
+-- the text represents this day.
 pub read : (text : List ℕ) (parts : Parts) (day : Date) → PartsAre text (Some parts)
     → IsYmd (pos (parts.century * 100 + parts.year)) (pos parts.month) (pos parts.day) day → IsReadAs text (Some day)
 read text parts day are is =
@@ -147,8 +147,8 @@ read text parts day are is =
 upward : (a b : ℕ) → a ≤ b → pos a ≤ℤ pos b
 upward a b le = omega (arith, signed_arith, le)
 
--- If the calendar has no day with the numbers in a text of the form `YYYY-MM-DD`, then the text
--- represents no day.
+-- If the calendar has no day with the year, month and day in a text of the form `YYYY-MM-DD`, then
+-- the text represents no day.
 pub unread : (text : List ℕ) (parts : Parts) → PartsAre text (Some parts)
     → ¬ IsDate (pos (parts.century * 100 + parts.year)) (pos parts.month) (pos parts.day) → IsReadAs text None
 unread text parts are lacks day spells =

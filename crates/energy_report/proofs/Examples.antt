@@ -27,8 +27,8 @@ use Rattle.energy_report.specs.Texts.{energy_text, report_text}
 use Rattle.energy_report.proofs.DayLemmas.{unread}
 use Rattle.energy_report.proofs.RangeLemmas.{not_le, not_lt, of_le, of_lt}
 
--- Examples of the texts of energies: 0 mWh, 1 mWh, the largest below 1 kWh, 1 kWh, and the largest
--- of 128 bits.
+-- Examples of the texts of energies in kWh: 0 mWh, 1 mWh, the largest energy below 1 kWh, 1 kWh,
+-- and the largest energy of 128 bits.
 
 no_energy : energy_text KilowattHours 0 ≡ codes "0.000000"
 unfolding digits
@@ -60,7 +60,8 @@ the_greatest_stays : (a b : DayTotal) → a.mwh ≡ 3402823669209384634633746074
     → (shown (joined (row_of a) (row_of b))).mwh ≡ 340282366920938463463374607431768211455
 the_greatest_stays a b greatest one = rw (greatest, one) refl
 
--- Examples of days of the calendar, and of texts of days that the calendar lacks.
+-- Examples of texts that represent days of the calendar, and of texts of days that the calendar
+-- does not have.
 
 leap_day : (day : Date) → day.year ≡ pos 2024 → day.month ≡ 2 → day.day ≡ 29 → IsReadAs (codes "2024-02-29") (Some day)
 leap_day day year month date = rw (year, month, date) (refl, omega (arith, signed_arith))
@@ -81,7 +82,8 @@ no_month = unread (codes "2024-13-01") (record { century = 20; year = 24; month 
     (record { century = omega arith; year = omega arith; month = omega arith; day = omega arith }, refl)
     (λ (has : IsDate (pos 2024) (pos 13) (pos 1)). omega (arith, signed_arith, has.1.1))
 
--- Examples of ranges of days. A range contains its first day and excludes the day of its end.
+-- Examples of ranges of days. A range contains its first day, and does not contain the day that is
+-- given as its end.
 
 the_first_day_is_in : (from till : Date) → epoch_day from <ℤ epoch_day till → is_in (range (Some from) (Some till)) from ≡ true
 the_first_day_is_in from till forward =

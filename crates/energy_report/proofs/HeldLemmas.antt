@@ -20,7 +20,7 @@ use Rattle.energy_report.specs.HeldSinks.{CountsReading, HasCountedNone}
 use Rattle.energy_report.specs.StatementTexts.{are_none, count_piece, count_text, counts_or_zero, counts_text, held_mark, held_some}
 use Rattle.energy_report.proofs.TallyLemmas.{counts}
 
--- The counts of the eight causes for which readings are rejected.
+-- Lemmas on the counts of the eight causes for which readings are rejected.
 
 abbrev eight : (a b d e f g h i : ℕ) → RejectedCounts
 eight a b d e f g h i = record {
@@ -66,7 +66,7 @@ counted_on zone range before (held ∷ holds) from to z r is took =
     ∙ ap (held_within zone range) (append_assoc before (held ∷ []) holds)
 
 -- After `RejectedWithin` receives a list of rejected readings, its counts are those of the readings
--- in its range of days (`held_within`).
+-- whose timestamps are in its range of days (`held_within`).
 pub counted_all : (zone : Zone) (range : DayRange) (holds : List HeldReading) (from to : RejectedWithin) → HasCountedNone zone range from
     → TakesAll CountsReading from holds to → to.counts ≡ held_within zone range holds
 counted_all zone range holds from to fresh took = counted_on zone range [] holds from to fresh.zone_is fresh.range_is fresh.none took
@@ -110,8 +110,8 @@ text_with format before x =
 none_more : (before : List HeldCount) (x : HeldCount) → are_none (some_of (before ++ x ∷ [])) ≡ (are_none (some_of before) && (x.count == 0))
 none_more before x = ap are_none (filter-append is_some before (x ∷ [])) ∙ none_with (some_of before) x (x.count == 0)
 
--- Appending the text of the next count of rejected readings to the text of the counts before it
--- yields the text of one more count.
+-- Suppose that the text of the first `i` counts of rejected readings is followed by the text of the
+-- next count. Then the result is the text of the first `i + 1` counts.
 pub piece_more : (format : Format) (xs : List HeldCount) (i : ℕ) (d : HeldCount) (old page new : List ℕ) (none : Bool) → i < length xs
     → page ≡ old ++ counts_text format (some_of (take i xs)) → none ≡ are_none (some_of (take i xs))
     → new ≡ page ++ count_piece format none (get_or xs i d) → new ≡ old ++ counts_text format (some_of (take (i + 1) xs))

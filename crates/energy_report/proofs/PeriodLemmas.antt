@@ -45,8 +45,8 @@ same-like period.Month a b x same =
     ∙ ap (λ month. int_eq b.year x.year && int_eq month (pos x.month)) (equal (pos a.month) (pos b.month) parts.1)
 same-like period.Year a b x same = ap (λ year. int_eq year x.year) (equal a.year b.year same)
 
--- If a day is not before another day, then its year is not less. If the years are equal, its month
--- is not less.
+-- If a day is not before another day, then its year is not less than the other day's year. If the
+-- years are equal, its month is not less.
 years : (a b : Date) → epoch_day a ≤ℤ epoch_day b → a.year ≤ℤ b.year
 years a b le = elim (cases_date a b) [
   | inl (inl year) ↦ omega (arith, signed_arith, year)

@@ -1,5 +1,5 @@
--- Lemmas about the energy report without options, which equals the list of days that the crate
--- `interval_core` defines.
+-- Lemmas about the energy report without options. The text of this report equals that of the list
+-- of days that the crate `interval_core` defines.
 use Rattle.std.proofs.Common.{◌≡◌, ◌-◌, ◌^◌, ◌≤◌, false, List, [], ◌∷◌, ◌++◌, map, length, refl, ◌∙◌, ap, arith}
 use Rattle.std.specs.Prelude.{◌<ℤ◌, All, min}
 use Rattle.std.specs.List.{flat_map, join_by}

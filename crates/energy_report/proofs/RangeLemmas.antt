@@ -40,7 +40,7 @@ not_lt Less a b is le = absurd (omega (arith, signed_arith, is, le))
 not_lt Equal a b is le = refl
 not_lt Greater a b is le = refl
 
--- If a range of days begins on or before the day of a cut, it also begins on or before each later
+-- If a range of days begins on or before the day of a cut, then it begins on or before each later
 -- day.
 begun : (from : Option Date) (cut day : Date) → begins_by from cut ≡ true → epoch_day cut ≤ℤ epoch_day day → begins_by from day ≡ true
 begun None cut day by le = refl
@@ -48,7 +48,8 @@ begun (Some first) cut day by le =
     let here : epoch_day first ≤ℤ epoch_day cut = le_of (int_cmp (epoch_day first) (epoch_day cut)) (epoch_day first) (epoch_day cut) (int_ranks (epoch_day first) (epoch_day cut)) by in
     of_le (int_cmp (epoch_day first) (epoch_day day)) (epoch_day first) (epoch_day day) (int_ranks (epoch_day first) (epoch_day day)) (omega (arith, signed_arith, here, le))
 
--- If a range of days ends on or after the day of a cut, it ends after each day before the cut.
+-- If a range of days ends on or after the day of a cut, then it ends after each day that is before
+-- the cut.
 open_still : (till : Option Date) (cut day : Date) → ends_before (Some cut) till ≡ false → epoch_day day <ℤ epoch_day cut → ends_after till day ≡ true
 open_still None cut day ordered lt = refl
 open_still (Some last) cut day ordered lt =
@@ -80,8 +81,8 @@ once from till cut day first second = by_lt_z (epoch_day day) (epoch_day cut)
     let begins : begins_by (Some cut) day ≡ true = of_le (int_cmp (epoch_day cut) (epoch_day day)) (epoch_day cut) (epoch_day day) (int_ranks (epoch_day cut) (epoch_day day)) ge in
     rw (ends, begins, begun from cut day (not-false (begins_by from cut) first) ge) (in_second (ends_after till day)))
 
--- The energy of the days that pass a test includes the energy of one more day if and only if this
--- day passes the test.
+-- If a day passes a test, then adding the day to a list adds its energy to that of the days that
+-- pass the test. Otherwise this energy is unchanged.
 kept : (b : Bool) (total : DayTotal) (days : List DayTotal) → energy_of_days (cond b (total ∷ days) days) ≡ cond b total.mwh 0 + energy_of_days days
 kept true total days = sum_by-cons (λ (day : DayTotal). day.mwh) total days
 kept false total days = omega arith

@@ -21,8 +21,8 @@ all_dropped contents line (row ∷ rows) from to failed took =
     let still : took.0.failed ≡ true = rw here failed in
     all_dropped contents line rows took.0 to still took.2 ∙ here
 
--- If a part of a text was written, then a part of each longer text with the same beginning was
--- written.
+-- If a beginning of a text was written, then a beginning of each longer text that starts with this
+-- text was written.
 pub longer : (x y : List ℕ) (a b : Option (List ℕ)) → GotPart x a b → GotPart (x ++ y) a b
 longer x y a b got =
     (got.0, got.1 ++ y, ap (λ (front : List ℕ). front ++ y) got.2 ∙ append_assoc got.0 got.1 y, got.3)
@@ -98,8 +98,8 @@ either : {P : Type 0} (b : Bool) → (b ≡ false → P) → (b ≡ true → P) 
 either false works failed = works refl
 either true works failed = failed refl
 
--- `RowLines` has written the lines of all rows that it received, or only a part of these lines if a
--- write failed.
+-- `RowLines` (a writer of one line for each row) has written the lines of all rows that it
+-- received. If a write failed, it has written only a beginning of these lines.
 pub all_written : {W T : Type 0} (contents : W → Option (List ℕ)) (line : T → List ℕ) (rows : List T) (from to : RowLines W)
     → from.failed ≡ false → Fits from.count → TakesAll (TakesLine contents line) from rows to
     → HasWritten contents (flat_map line rows) (length rows) from to

@@ -14,7 +14,7 @@ use Rattle.energy_report.specs.Rows.{before, joined, row_of, rows_by, rows_in, s
 use Rattle.energy_report.proofs.PeriodLemmas.{same-like}
 
 -- The rows of a report after one more day. A day of the last row's period is added to this row. Any
--- other day begins a row.
+-- other day begins a new row.
 abbrev pub after : Period → List Row → DayTotal → List Row
 after p [] total = row_of total ∷ []
 after p (row ∷ []) total = cond (is_same p row.first total.day) (joined row (row_of total) ∷ []) (row ∷ row_of total ∷ [])
@@ -25,8 +25,8 @@ regroup a b c =
     ap (λ n. record { first = a.first; count = n; mwh = a.mwh + (b.mwh + c.mwh) }) (sym (add_assoc a.count b.count c.count))
     ∙ ap (λ n. record { first = a.first; count = a.count + b.count + c.count; mwh = n }) (sym (add_assoc a.mwh b.mwh c.mwh))
 
--- Adding a report row in front of other rows and then a day at the end yields the same rows as
--- adding the day first.
+-- Suppose that a row is added in front of a report's rows, and a day at their end. The result does
+-- not depend on which of the two is added first.
 three : (p : Period) (r x : Row) (t : DayTotal) (first last : Bool) → is_same p r.first x.first ≡ first → is_same p x.first t.day ≡ last
     → before p r (cond last (joined x (row_of t) ∷ []) (x ∷ row_of t ∷ []))
     ≡ after p (cond first (joined r x ∷ []) (r ∷ x ∷ [])) t
@@ -58,8 +58,8 @@ after-push p [] row more t = refl
 after-push p (d ∷ []) row more t = refl
 after-push p (d ∷ e ∷ done) row more t = ap (λ rows. d ∷ rows) (after-push p (e ∷ done) row more t)
 
--- A day in the range of a report is added to the report's rows. A day outside the range leaves the
--- rows unchanged.
+-- If a day in the range of a report is added to the report's days, it is added to the report's
+-- rows. A day outside the range leaves the rows unchanged.
 pub with_day : (form : ReportForm) (days : List DayTotal) (t : DayTotal) → is_in form.range t.day ≡ true
     → rows_in form (days ++ t ∷ []) ≡ after form.period (rows_in form days) t
 with_day form days t there =

@@ -57,8 +57,8 @@ tally = record {
 all_entries : (zone : Zone) → tally_of zone all_days entries ≡ tally
 all_entries zone = refl
 
--- After a reset, the last count in the tally of a meter's entries is the count to which the counter
--- was set.
+-- After a reset, the last counter value in the tally of a meter's entries is the value to which the
+-- counter was set.
 set_anew : (zone : Zone) → (tally_of zone all_days (opened ∷ reset ∷ [])).last ≡ Some (record { at = 4000; raw = 0; sf = pos 0 })
 set_anew zone = refl
 
@@ -71,8 +71,8 @@ past_the_last_moment zone = refl
 all_rows : (zone : Zone) → energy_within zone all_days (record { start = 900; mwh = 5000 } ∷ record { start = 1800; mwh = 2000 } ∷ record { start = 4500; mwh = 2000 } ∷ []) ≡ 9000
 all_rows zone = refl
 
--- Examples of the energies of 5 counts of 1 Wh, 1 mWh and 1 kWh, and at a scale factor out of
--- range.
+-- Examples of the energy that the counter value 5 shows: in units of 1 Wh, 1 mWh and 1 kWh, and at
+-- a scale factor out of range.
 
 abbrev stood : ℤ → Last
 stood sf = record { at = 0; raw = 5; sf = sf }
@@ -92,7 +92,8 @@ five_kwh = refl
 no_such_scale : worth_of (stood (pos 4)) ≡ 0
 no_such_scale = refl
 
--- Examples of counts of rejected readings: three for another scale factor, and one for a gap.
+-- Examples of counts of rejected readings: three readings were rejected because of another scale
+-- factor, and one because of a gap.
 
 abbrev held_at : (moment : ℕ) → Cause → HeldReading
 held_at moment why = record { meter = codes "m1"; poll = 1; at = moment; raw = 5; sf = pos 0; cause = why }
@@ -119,8 +120,8 @@ all_holds zone = refl
 no_holds : (zone : Zone) → held_within zone all_days [] ≡ none_held
 no_holds zone = refl
 
--- Example counts of rejected readings. The first cause has the largest possible count, and each
--- other cause has its own number as its count.
+-- Example counts of rejected readings. The first cause has the largest possible count, and the
+-- count of each other cause equals the numeric code of the cause.
 abbrev all_held : RejectedCounts
 all_held = record {
   not_accumulated = 18446744073709551615;

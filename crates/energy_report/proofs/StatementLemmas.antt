@@ -35,8 +35,8 @@ split form (x ∷ done) row more =
     ∙ ap (λ b. (row_text form x ++ later form done) ++ ((lead b form ++ row_text form row) ++ later form more))
     (sym (ne_eqb (suc (length done)) 0 (λ e. omega (arith, e))))
 
--- The text of the rows of a statement (billing report) is the text of the first rows, of the next
--- row, and of the later rows.
+-- The text of the rows of a statement (billing report) consists of the texts of the first rows, the
+-- next row and the later rows.
 pub begun : (form : StatementForm) (done : List MeterStatement) (row : MeterStatement) (more : List MeterStatement)
     → begun_text form (done ++ row ∷ more) ≡ begun_text form done ++ (piece form (length done) row ++ later form more)
 begun form done row more =
@@ -60,7 +60,7 @@ length_before [] i lt = absurd (omega (arith, lt))
 length_before (x ∷ xs) zero lt = refl
 length_before (x ∷ xs) (suc i) lt = ap suc (length_before xs i (omega (arith, lt)))
 
--- The text of a statement (billing report) after the row at an index.
+-- The text of a statement (billing report) that follows the row at the index `i`.
 abbrev pub tail : StatementForm → List MeterStatement → (i : ℕ) → List ℕ
 tail form rows i = later form (drop (suc i) rows) ++ ending_by form.format (length rows)
 

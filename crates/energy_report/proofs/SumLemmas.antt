@@ -8,8 +8,8 @@ use Rattle.energy_report.specs.declared.row.Row.{Row}
 use Rattle.energy_report.specs.Periods.{is_same}
 use Rattle.energy_report.specs.Rows.{before, joined, row_of, rows_by}
 
--- True if the value of a function for two merged report rows is the sum of its values for both
--- rows, as for count and energy.
+-- True if the value of a function for two merged report rows is the sum of its values for the two
+-- rows. The count and the energy are such functions.
 abbrev pub Adds : (Row → ℕ) → Type 0
 Adds f = (row next : Row) → f (joined row next) ≡ f row + f next
 

@@ -118,7 +118,8 @@ module _ {W : Type 0} (contents : W → Option (List ℕ)) where
     broken = λ failed less. clash old.failed works (sym keeps.failed ∙ failed);
   }
 
--- If a report has at least one row, then it still has at least one row after a day is added.
+-- If a report has at least one row, then it still has at least one row after a day or a row is
+-- added.
 after-more : (p : Period) (row : Row) (rest : List Row) (t : DayTotal) (b : Bool) (next : Row) (rows : List Row)
     → (r : Row) × (rs : List Row) × (cond b (joined row next ∷ rows) (row ∷ next ∷ rows) ≡ r ∷ rs)
 after-more p row rest t true next rows = (joined row next, rows, refl)
@@ -153,8 +154,8 @@ begun_of : (form : ReportForm) (front more : List Row) → (rest : List ℕ) × 
 begun_of form [] more = (begun_text form more, refl)
 begun_of form (row ∷ rows) more = (_, begun-append form row rows more)
 
--- After any number of days, the text that a report has written is the beginning of the report on
--- all days.
+-- After any number of days, the text that a report has written is a beginning of the complete
+-- report on these days.
 part_of : (form : ReportForm) (front : List Row) (days : List DayTotal) → Goes form front days
     → (rest : List ℕ) × (report_text form days ≡ begun_text form front ++ rest)
 part_of form front days goes =
@@ -250,7 +251,8 @@ module _ {W : Type 0} (contents : W → Option (List ℕ)) where
       let Q : List ℕ → Type 0 = λ text. GotPart text (contents from) (contents new.output.now) in
       subst Q is (following text last _ _ _ got (subst P failed (writes.written works)))
 
-  -- If an earlier write of a report failed, then `finish` writes nothing more.
+  -- If an earlier write of a report failed, then `finish` writes nothing, and the written text is
+  -- only a beginning of the report.
   pub ends_broken : (days : List DayTotal) (from old new : ReportRows W) → old.failed ≡ true → new.failed ≡ true → new.output.now ≡ old.output.now
       → HasTaken contents days from old → length days < 2 ^ 64 → IsFinished contents days from new
   ends_broken days from old new failed again now h less =

@@ -38,8 +38,8 @@ begun-append form row rows more =
     ∙ ap (λ text. opening form ++ text) (sym (append_assoc front xs ys))
     ∙ sym (append_assoc (opening form) (front ++ xs) ys)
 
--- After a row is added to a report, the new text is the earlier text, followed by the text before
--- the row and the row.
+-- After a row is added to a report, the new text is the earlier text, then the report's beginning
+-- or a separator, and then the row.
 pub begun-push : (form : ReportForm) (done : List Row) (row : Row)
     → begun_text form (done ++ row ∷ []) ≡ begun_text form done ++ (lead (length done == 0) form ++ row_text form (shown row))
 begun-push form [] row = ap (λ text. opening form ++ text) (append-nil (row_text form (shown row)))
@@ -57,8 +57,8 @@ whole form days (row ∷ rows) is =
     ap (λ those. rows_text form (map shown those)) is
     ∙ ap (λ n. begun_text form (row ∷ rows) ++ ending form n) (length-map (row ∷ rows) shown)
 
--- If a part of a text was written, then a part of each longer text with the same beginning was
--- written.
+-- If a beginning of a text was written, then a beginning of each longer text that starts with this
+-- text was written.
 pub longer : (x y : List ℕ) (a b : Option (List ℕ)) → GotPart x a b → GotPart (x ++ y) a b
 longer x y a b got =
     (got.0, got.1 ++ y, ap (λ (front : List ℕ). front ++ y) got.2 ∙ append_assoc got.0 got.1 y, got.3)

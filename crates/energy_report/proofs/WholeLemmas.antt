@@ -41,12 +41,14 @@ firsts P p [] all = All-nil (OfRow P)
 firsts P p (total ∷ days) all =
     first-before P p (row_of total) (rows_by p days) (All-head (OfDay P) total days all) (firsts P p days (All-tail (OfDay P) total days all))
 
--- The energy of a period's days includes a day's energy if and only if the day is in the period.
+-- If a day is in a period, then adding the day to a list adds its energy to the energy of the
+-- period's days. Otherwise this energy is unchanged.
 with_day : (b : Bool) (total : DayTotal) (days : List DayTotal) → energy_of_days (cond b (total ∷ days) days) ≡ cond b total.mwh 0 + energy_of_days days
 with_day true total days = sum_by-cons (λ (day : DayTotal). day.mwh) total days
 with_day false total days = omega arith
 
--- If two report rows are of the same period, then the same days belong to both rows.
+-- If two days are of the same period (day, month or year), then the days of a list in the first
+-- day's period are those in the second day's period.
 days-like : (p : Period) (a b : Date) (days : List DayTotal) → is_same p a b ≡ true
     → filter (λ total. is_same p a total.day) days ≡ filter (λ total. is_same p b total.day) days
 days-like p a b [] same = refl
@@ -70,7 +72,7 @@ itself period.Month a =
     ap (λ v. v && int_eq (pos a.month) (pos a.month)) (equals a.year a.year refl) ∙ equals (pos a.month) (pos a.month) refl
 itself period.Year a = equals a.year a.year refl
 
--- If a day of another period is added to the list of days, then each report row still has the
+-- If a day outside the periods of all report rows is added to the days, then each row still has the
 -- energy of all its days.
 kept_days : (p : Period) (total : DayTotal) (days : List DayTotal) (rows : List Row) → All (λ row. is_same p row.first total.day ≡ false) rows
     → All (HasItsDays p days) rows → All (HasItsDays p (total ∷ days)) rows

@@ -1,5 +1,5 @@
--- The text of a civil day, and the range of civil days that two arguments on the command line
--- select.
+-- Defines the text of a civil day, and the range of civil days that two arguments on the command
+-- line select.
 use Rattle.std.specs.Prelude.{◌≡◌, ℕ, ◌+◌, ◌<◌, pos, ◌≤ℤ◌, List, [], ◌∷◌, ◌++◌, codes, true, false, Option, Some, None}
 use Rattle.std.specs.Borrow.{Bor}
 use Rattle.jiff.specs.Words.{date_text}
@@ -15,14 +15,14 @@ use Rattle.energy_report.specs.declared.spelled_range.RangeFault.TheVariants as 
 abbrev pub Spells : List ℕ → Date → Type 0
 Spells text day = (date_text day ≡ text) × (pos 0 ≤ℤ day.year)
 
--- True if parsing a text yields the day that the text represents, or `None` if the text represents
--- no day.
+-- True if the result of parsing a text is the day that the text represents, or `None` because the
+-- text represents no day.
 abbrev pub IsReadAs : List ℕ → Option Date → Type 0
 IsReadAs text (Some day) = Spells text day
 IsReadAs text None = (day : Date) → ¬ Spells text day
 
--- True if one end of a range of days is the day that a command line argument represents. Without an
--- argument, the range is open at this end.
+-- True if one end of a range of days is the day that a command line argument represents. If there
+-- is no argument, the range must be open at this end.
 abbrev pub IsEnd : Option (Bor (List ℕ)) → Option Date → Type 0
 IsEnd None None = Unit {0}
 IsEnd None (Some day) = ⊥
@@ -34,8 +34,8 @@ abbrev pub IsNoEnd : Option (Bor (List ℕ)) → Type 0
 IsNoEnd None = ⊥
 IsNoEnd (Some word) = (day : Date) → ¬ Spells word.now day
 
--- True if two command line arguments select a range of days. The first argument is the first day of
--- the range, and the second argument is the day after the last day.
+-- True if two command line arguments select a range of days that does not end before it begins. The
+-- first argument is the first day, and the second is the day after the last day.
 pub record IsRange (first last : Option (Bor (List ℕ))) (range : DayRange) : Type 0 where
   pub from : IsEnd first range.from
   pub till : IsEnd last range.till
@@ -60,8 +60,8 @@ abbrev pub DigitIs : (byte : ℕ) → Option ℕ → Type 0
 DigitIs byte (Some n) = (n < 10) × (byte ≡ 48 + n)
 DigitIs byte None = (n : ℕ) → n < 10 → ¬ (byte ≡ 48 + n)
 
--- True if the two bytes are the digits of a number below 100. For `None`, true if they are not both
--- digits.
+-- True if the two bytes are the decimal digits of the number, which is below 100. For `None`, true
+-- if the two bytes are not both digits.
 abbrev pub PairIs : (tens ones : ℕ) → Option ℕ → Type 0
 PairIs tens ones (Some n) = (n < 100) × (pad2 n ≡ tens ∷ ones ∷ [])
 PairIs tens ones None = (n : ℕ) → n < 100 → ¬ (pad2 n ≡ tens ∷ ones ∷ [])

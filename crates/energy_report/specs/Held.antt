@@ -16,12 +16,13 @@ use Rattle.energy_report.specs.RowLines.{counted, one_more_if}
 abbrev pub is_one : (one other : Cause) → Bool
 is_one one other = cause_number one == cause_number other
 
--- True if a reading was rejected for the cause `why` at a time in the range of days.
+-- True if the timestamp of a rejected reading is in the range of days, and the cause of the
+-- rejection is `why`.
 abbrev pub is_held_within : Zone → DayRange → (why : Cause) → HeldReading → Bool
 is_held_within zone range why held = has_moment zone range held.at && is_one held.cause why
 
--- The number of readings that were rejected for the cause `why` at a time in the range of days. The
--- number saturates at 2^64 - 1.
+-- The number of readings that were rejected for the cause `why` and have a timestamp in the range
+-- of days. The number saturates at 2^64 - 1.
 abbrev pub held_for : Zone → DayRange → List HeldReading → (why : Cause) → ℕ
 held_for zone range holds why = counted (count_by (is_held_within zone range why) holds)
 
@@ -38,8 +39,8 @@ held_within zone range holds = record {
   not_below_range = held_for zone range holds cause.NotBelowRange;
 }
 
--- Each cause for which readings are rejected, with the count of these readings, in the order of the
--- causes' numbers.
+-- Each cause for which readings are rejected, with the number of readings rejected for this cause,
+-- in the order of the causes' numeric codes.
 abbrev pub by_cause : RejectedCounts → List HeldCount
 by_cause counts =
     record { cause = cause.NotAccumulated; count = counts.not_accumulated }
@@ -65,8 +66,8 @@ none_held = record {
   not_below_range = 0;
 }
 
--- The counts of rejected readings after one more reading. If `counts` is true, the count of the
--- reading's cause grows by one. The other counts are unchanged.
+-- The counts of rejected readings after one more reading, which was rejected for the cause `why`.
+-- If `counts` is true, the count for this cause grows by one. The other counts are unchanged.
 abbrev pub with_one : RejectedCounts → (counts : Bool) → (why : Cause) → RejectedCounts
 with_one old counts why = record {
   not_accumulated = one_more_if (counts && is_one why cause.NotAccumulated) old.not_accumulated;

@@ -30,8 +30,8 @@ energy_of_rows rows = sum_by (λ row. row.mwh) rows
 abbrev pub intervals_of_rows : List Row → ℕ
 intervals_of_rows rows = sum_by (λ row. row.count) rows
 
--- Theorem: for any period (day, month or year), the rows of a report have the same energy and
--- number of quarter hours as the days in the requested range.
+-- Theorem: for any period, the rows of a report add up to the energy and number of quarter hours of
+-- the requested days.
 abbrev pub RowsAddUp : Type 0
 RowsAddUp = (form : ReportForm) (days : List DayTotal)
     → (energy_of_rows (rows_in form days) ≡ energy_of_days (days_in form.range days))
@@ -45,8 +45,8 @@ RowsAreShown = (form : ReportForm) (days : List DayTotal)
     → energy_of_days (days_in form.range days) < 2 ^ 128
     → shown_rows form days ≡ rows_in form days
 
--- The range of days from the day `from` up to, but not including, the day `till`. `None` leaves the
--- range open at this end.
+-- The range of days from the day `from` up to, but not including, the day `till`. If one of them is
+-- `None`, the range is open at this end.
 abbrev pub range : (from till : Option Date) → DayRange
 range from till = record { from = from; till = till }
 
@@ -73,8 +73,8 @@ AreApart period (row ∷ rows) =
 abbrev pub HasItsDays : Period → List DayTotal → Row → Type 0
 HasItsDays period days row = row.mwh ≡ energy_of_days (days_of_row period row days)
 
--- Theorem: if the days of a report are in order, then each period with days has exactly one row.
--- The row has the energy of all days of the period.
+-- Theorem: suppose that the days of a report are in order. Then each period with days has exactly
+-- one row, which has the energy of all days of the period.
 abbrev pub RowsAreWhole : Type 0
 RowsAreWhole = (period : Period) (days : List DayTotal) → AreInOrder (map account_of days)
     → All (HasItsDays period days) (rows_by period days) × AreApart period (rows_by period days)
@@ -84,7 +84,8 @@ RowsAreWhole = (period : Period) (days : List DayTotal) → AreInOrder (map acco
 abbrev pub IsHeld : DayTotal → Type 0
 IsHeld total = (total.count < 2 ^ 32) × (total.mwh < 2 ^ 128)
 
--- Theorem: the report without options (all days, one row for each day, mWh, text) is the text
+-- Theorem: suppose that the days are in order, and that their counts and energies fit in their
+-- types. Then the report without options (all days, one row for each day, mWh, text) is the text
 -- `days_text` of the list of days.
 abbrev pub PlainReportsAreListsOfDays : Type 0
 PlainReportsAreListsOfDays = (days : List DayTotal) → AreInOrder (map account_of days)

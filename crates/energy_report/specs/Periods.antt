@@ -21,8 +21,8 @@ last_day period.Day day = epoch_day day
 last_day period.Month day = days_from_civil day.year day.month (month_length day)
 last_day period.Year day = days_from_civil day.year 12 31
 
--- Theorem: a later day is in the same period (day, month or year) if and only if it is not after
--- the last day of the period.
+-- Theorem: let a day be the same as or later than a given day. Then the day is in the given day's
+-- period (day, month or year) if and only if it is not after the period's last day.
 abbrev pub PeriodsEndWithTheirLastDay : Type 0
 PeriodsEndWithTheirLastDay = (period : Period) (day other : Date)
     → epoch_day day ≤ℤ epoch_day other

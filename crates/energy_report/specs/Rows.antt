@@ -11,7 +11,7 @@ use Rattle.energy_report.specs.Periods.{is_same}
 abbrev pub row_of : DayTotal → Row
 row_of total = record { first = total.day; count = total.count; mwh = total.mwh }
 
--- One report row with the sum of two rows of the same period. Its first day is the first day of the
+-- The row that adds up two report rows of the same period. Its first day is the first day of the
 -- earlier row.
 abbrev pub joined : Row → Row → Row
 joined row next = record {
@@ -27,7 +27,8 @@ before period row [] = row ∷ []
 before period row (next ∷ rows) =
     if is_same period row.first next.first then joined row next ∷ rows else row ∷ next ∷ rows
 
--- The report rows of a list of days. Consecutive days of one period form one row.
+-- The report rows of a list of days. Consecutive days of the same period (day, month or year) form
+-- one row.
 abbrev pub rows_by : Period → List DayTotal → List Row
 rows_by period [] = []
 rows_by period (total ∷ days) = before period (row_of total) (rows_by period days)

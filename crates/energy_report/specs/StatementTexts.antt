@@ -17,33 +17,36 @@ use Rattle.energy_report.specs.Held.{by_cause}
 use Rattle.energy_report.specs.Statements.{worth_of}
 use Rattle.energy_report.specs.Texts.{ending_by, energy_text, separator_by, unit_word}
 
--- Texts of the state of a counter: its timestamp and its value.
+-- Definitions for the texts of the state of a counter: its timestamp and its value.
 
--- The text that replaces a counter's state if the range of days has no valid entry.
+-- The text that is printed instead of a counter's state if the meter has no valid entry in the
+-- range of days.
 abbrev pub nothing : Format → List ℕ
 nothing Text = codes "-"
 nothing Csv = []
 nothing Json = codes "null"
 
--- The quotation mark around a value, which is empty in formats other than JSON.
+-- The quotation mark around a value in JSON. In other formats, this text is empty.
 abbrev pub quote : Format → List ℕ
 quote Text = []
 quote Csv = []
 quote Json = codes "\""
 
--- The timestamp of a counter's state in an output format, or `nothing` without a state.
+-- The timestamp of a counter's state in an output format. If there is no state, the text is
+-- `nothing`, such as `-`.
 abbrev pub moment_text : Format → Option Last → List ℕ
 moment_text format None = nothing format
 moment_text format (Some stand) = decimal stand.at
 
--- The energy that a counter's state shows, in an output format and a unit, or `nothing` without a
--- state.
+-- The energy that a counter's state shows, in an output format and a unit. If there is no state,
+-- the text is `nothing`, such as `-`.
 abbrev pub worth_text : Format → EnergyUnit → Option Last → List ℕ
 worth_text format unit None = nothing format
 worth_text format unit (Some stand) =
     quote format ++ energy_text unit (worth_of stand) ++ quote format
 
--- Texts of counts of rejected readings, such as `2=3,5=1` (three for cause 2, one for 5).
+-- Definitions for the texts of counts of rejected readings, such as `2=3,5=1` (three readings for
+-- cause 2, one for cause 5).
 
 -- The text between two counts of rejected readings. In CSV, the separator is not a comma, because
 -- commas separate fields.
@@ -52,15 +55,15 @@ held_mark Text = codes ","
 held_mark Csv = codes ";"
 held_mark Json = codes ","
 
--- The text between a cause of rejection and its count. Outside JSON, the separator is not a colon,
+-- The text between a cause of rejection and its count. Except in JSON, this text is not a colon,
 -- because spreadsheets read `2:3` as a time.
 abbrev pub count_mark : Format → List ℕ
 count_mark Text = codes "="
 count_mark Csv = codes "="
 count_mark Json = codes ":"
 
--- The text of one count of rejected readings: the number of the cause, and the number of readings
--- rejected for this cause.
+-- The text of one count of rejected readings: the numeric code of the cause, and the number of
+-- readings rejected for this cause.
 abbrev pub count_text : Format → HeldCount → List ℕ
 count_text format one =
     quote format ++ decimal (cause_number one.cause) ++ quote format ++ count_mark format
@@ -70,7 +73,7 @@ count_text format one =
 abbrev pub counts_text : Format → List HeldCount → List ℕ
 counts_text format counts = join_by (count_text format) (held_mark format) counts
 
--- The counts of rejected readings that are not 0, in the order of the causes' numbers.
+-- The counts of rejected readings that are not 0, in the order of the causes' numeric codes.
 unfoldable pub held_some : RejectedCounts → List HeldCount
 held_some held = filter (λ one. not (one.count == 0)) (by_cause held)
 
@@ -98,8 +101,8 @@ count_piece format is_first one =
     if one.count == 0 then [] else
     (if is_first then [] else held_mark format) ++ count_text format one
 
--- The statement (billing report) of a meter as separated fields: a line of text, or a record of
--- CSV.
+-- Definitions for the statement (billing report) of a meter as separated fields: a line of text, or
+-- a record of CSV.
 
 -- The timestamp and the energy of a counter's state as two fields, each preceded by the separator
 -- `mark`.
@@ -107,7 +110,8 @@ abbrev pub stand_fields : StatementForm → (mark : List ℕ) → Option Last �
 stand_fields form mark stand =
     mark ++ moment_text form.format stand ++ mark ++ worth_text form.format form.unit stand
 
--- The numbers of a meter's corrections as fields, each preceded by the separator `mark`.
+-- The numbers of a meter's corrections (readings by hand, resets, rescales, voids) as fields, each
+-- preceded by the separator `mark`.
 abbrev pub count_fields : (mark : List ℕ) → EntryTally → List ℕ
 count_fields mark tally =
     mark ++ decimal tally.by_hand ++ mark ++ decimal tally.resets ++ mark
@@ -121,7 +125,7 @@ fields form mark row =
     ++ mark ++ energy_text form.unit row.mwh ++ count_fields mark row.entries
     ++ mark ++ held_text form.format row.held
 
--- The statement (billing report) of a meter as a JSON object.
+-- Definitions for the statement (billing report) of a meter as a JSON object.
 
 -- The timestamp and the energy of a counter's state as members of a JSON object.
 abbrev pub stand_members : EnergyUnit → (word : List ℕ) → Option Last → List ℕ
@@ -129,7 +133,8 @@ stand_members unit word stand =
     codes "\"" ++ word ++ codes "\":" ++ moment_text Json stand ++ codes ",\"" ++ word ++ codes "_"
     ++ unit_word unit ++ codes "\":" ++ worth_text Json unit stand ++ codes ","
 
--- The numbers of a meter's corrections as members of a JSON object.
+-- The numbers of a meter's corrections (readings by hand, resets, rescales, voids) as members of a
+-- JSON object.
 abbrev pub count_members : EntryTally → List ℕ
 count_members tally =
     codes ",\"by_hand\":" ++ decimal tally.by_hand ++ codes ",\"resets\":" ++ decimal tally.resets
@@ -182,8 +187,8 @@ abbrev pub lead : (is_first : Bool) → StatementForm → List ℕ
 lead true form = []
 lead false form = separator form
 
--- The text of a statement (billing report) from the beginning to the last of the given rows,
--- without the end of the statement.
+-- The text of a statement (billing report) with the given rows, without the text that ends the
+-- statement.
 abbrev pub begun_text : StatementForm → List MeterStatement → List ℕ
 begun_text form rows = opening form ++ join_by (row_text form) (separator form) rows
 

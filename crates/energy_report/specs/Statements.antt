@@ -1,5 +1,5 @@
--- The statement (billing report) of a meter for a range of days. The statement has the counter at
--- the first and the last entry, the number of corrections, and the energy.
+-- The statement (billing report) of a meter for a range of days. The statement has the counter's
+-- state at the first and the last entry, the number of corrections, and the energy.
 use Rattle.std.specs.Prelude.{ℕ, ℤ, int_lt, ◌-◌, ◌^◌, min, Bool, true, false, not, ◌&&◌, ◌||◌, List, filter, reverse, sum_by, None, if◌then◌else◌}
 use Rattle.std.specs.List.{count_by, find}
 use Rattle.std.specs.Option.{option_map}
@@ -20,7 +20,7 @@ use Rattle.energy_report.specs.declared.tallies.EntryTally.{EntryTally}
 use Rattle.interval_core.specs.Ranges.{has_moment}
 use Rattle.energy_report.specs.RowLines.{counted}
 
--- The state of a meter's counter after an entry, where `sf` is the scale factor after the entry.
+-- The state of a meter's counter after an entry. `sf` is the scale factor after the entry.
 abbrev pub stand_after : Entry → (sf : ℤ) → Last
 stand_after (step.Step at raw rolls) sf = record { at = at; raw = raw; sf = sf }
 stand_after (step.Change at before after set) sf = record { at = at; raw = after; sf = sf }
@@ -46,7 +46,7 @@ abbrev pub is_reset : EntryKind → Bool
 is_reset kind.Reset = true
 is_reset _ = false
 
--- True if the kind of an entry is a rescale of the counter.
+-- True if the kind of an entry is a rescale (a change of the counter's scale factor).
 abbrev pub is_rescale : EntryKind → Bool
 is_rescale kind.Rescale = true
 is_rescale _ = false
@@ -77,9 +77,9 @@ is_voided zone range e = is_within zone range e && not (stands e)
 abbrev pub count_of : (MeterEntry → Bool) → List MeterEntry → ℕ
 count_of does entries = counted (count_by does entries)
 
--- The tally of a meter's entries in a range of days: the counter at the first and last valid entry,
--- and the number of corrections. A voided (cancelled) entry counts if its own timestamp is in the
--- range, whenever it was voided.
+-- The tally of a meter's entries in a range of days: the counter's state after the first and after
+-- the last valid entry, and the numbers of corrections. A voided (cancelled) entry counts if its
+-- own timestamp is in the range, whenever it was voided.
 abbrev pub tally_of : Zone → DayRange → List MeterEntry → EntryTally
 tally_of zone range entries = record {
   first = option_map counter_after_entry (find (stands_within zone range) entries);
@@ -97,15 +97,15 @@ energy_within zone range rows =
     min (sum_by (λ row. row.mwh) (filter (λ row. has_moment zone range row.start) rows))
     (2 ^ 128 - 1)
 
--- The energy in mWh that corresponds to the count of a counter, or 0 if its scale factor is out of
--- range. No recorded counter has such a scale factor.
+-- The energy in mWh that the state of a counter shows, or 0 if its scale factor is out of range. No
+-- recorded state has such a scale factor.
 abbrev pub worth_of : Last → ℕ
 worth_of last =
     if int_lt last.sf MIN_SCALE || int_lt MAX_SCALE last.sf then 0 else value_of last
 
--- True if a meter was installed on at least one day in a range, by the clocks of the time zone. The
--- meter was installed before the end of the range, and was not closed before the beginning of the
--- range.
+-- True if a meter was installed on at least one day in a range, by the clocks of the time zone.
+-- This means that it was installed before the end of the range, and was not closed before the
+-- beginning of the range.
 abbrev pub was_installed : Zone → DayRange → Installation → Bool
 was_installed zone range row =
     has_moment zone (record { from = None; till = range.till }) row.opening.at

@@ -30,7 +30,7 @@ abbrev pub unit_word : EnergyUnit → List ℕ
 unit_word MilliwattHours = codes "mwh"
 unit_word KilowattHours = codes "kwh"
 
--- The name of the period that contains a day, such as `2026-11-25`, `2026-11` or `2026`.
+-- The text of the period that contains a day, such as `2026-11-25`, `2026-11` or `2026`.
 abbrev pub period_text : Period → Date → List ℕ
 period_text period.Day day = date_text day
 period_text period.Month day = year_text day.year ++ codes "-" ++ pad2 day.month
@@ -119,8 +119,8 @@ abbrev pub lead : (is_first : Bool) → ReportForm → List ℕ
 lead true form = opening form
 lead false form = separator form
 
--- The text that remains to be written after `count` rows of a report. If `count` is 0, the text
--- also begins the report.
+-- The text that a report writes at its end, after `count` rows. If `count` is 0, this text also
+-- contains the beginning of the report.
 abbrev pub last_text : ReportForm → (count : ℕ) → List ℕ
 last_text form zero = opening form ++ ending form 0
 last_text form (suc count) = ending form (suc count)

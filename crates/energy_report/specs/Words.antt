@@ -1,5 +1,5 @@
--- The arguments on the command line that select the range, period, unit and format of an energy
--- report.
+-- Defines the arguments on the command line that select the range, period, unit and format of an
+-- energy report.
 use Rattle.std.specs.Prelude.{ℕ, List, Option, Some, None, codes, if◌then◌else◌}
 use Rattle.std.specs.Str.{bytes_eq}
 use Rattle.energy_report.specs.declared.form.Period.{Period}

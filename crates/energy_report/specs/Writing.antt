@@ -1,4 +1,4 @@
--- Definitions for the text that a report has written while its days arrive one by one.
+-- Definitions for the text that a report has written so far, while its days arrive one by one.
 use Rattle.std.specs.Prelude.{◌≡◌, ℕ, ◌+◌, ◌-◌, ◌<◌, ◌^◌, ◌==◌, ◌++◌, ◌∷◌, min, Bool, true, false, List, [], map, length, Option, Some, None}
 use Rattle.std.specs.List.{join_by}
 use Rattle.std.specs.Io.KnownBytes.{Appends}
@@ -10,13 +10,14 @@ use Rattle.energy_report.specs.declared.report_rows.ReportRows.{ReportRows}
 use Rattle.energy_report.specs.Rows.{rows_in, shown}
 use Rattle.energy_report.specs.Texts.{lead, opening, report_text, row_text, separator}
 
--- True if a text was written completely, or, after a failed write, only in part.
+-- True if a text was written completely. After a failed write (`failed`), true if a beginning of
+-- the text was written.
 abbrev pub GotUnless : (failed : Bool) → (text : List ℕ) → (old new : Option (List ℕ)) → Type 0
 GotUnless false text old new = Appends old new text
 GotUnless true text old new = GotPart text old new
 
--- The effect of writing a text as a part of a report. The report writes the text to its output,
--- unless an earlier write failed.
+-- The effect of writing a text as a part of a report. The text is appended to the report's output,
+-- unless this write or an earlier write fails.
 pub record WritesText {W : Type 0} (contents : W → Option (List ℕ)) (text : List ℕ)
     (old new : ReportRows W) : Type 0 where
   pub form : new.form ≡ old.form
@@ -63,15 +64,15 @@ pub record IsWritten {W : Type 0} (contents : W → Option (List ℕ)) (days : L
   pub count : new.count ≡ length done
   pub text : Appends (contents old) (contents new.output.now) (begun_text new.form done)
 
--- True if the written text is a part of every report that begins with the given days, which is the
--- state after a failed write.
+-- True if the written text is a beginning of every report whose first days are the given days. This
+-- is the state after a failed write.
 abbrev pub IsBroken : {W : Type 0} → (W → Option (List ℕ)) → List DayTotal
     → (old : W) (new : ReportRows W) → Type 0
 IsBroken contents days old new = (more : List DayTotal)
     → GotPart (report_text new.form (days ++ more)) (contents old) (contents new.output.now)
 
--- True if the report has received a list of fewer than 2^64 days since its beginning. The rows of
--- these days are written, except the row still pending, or a write failed.
+-- True if a report has received the days in a list since its state `from`. The list has fewer than
+-- 2^64 days. The rows of these days are written, except the row still pending, or a write failed.
 pub record HasTaken {W : Type 0} (contents : W → Option (List ℕ)) (days : List DayTotal)
     (from to : ReportRows W) : Type 0 where
   pub form : to.form ≡ from.form
@@ -79,8 +80,8 @@ pub record HasTaken {W : Type 0} (contents : W → Option (List ℕ)) (days : Li
       → IsWritten contents days from.output.now to
   pub broken : to.failed ≡ true → length days < 2 ^ 64 → IsBroken contents days from.output.now to
 
--- The effect of one more day on a report. The report has then received the earlier days, followed
--- by this day.
+-- The effect of one more day on a report. If the report had received some days, then it has now
+-- received these days, followed by this day.
 pub record TakesDay {W : Type 0} (contents : W → Option (List ℕ)) (old : ReportRows W)
     (total : DayTotal) (new : ReportRows W) : Type 0 where
   pub output : new.output.ghost_name ≡ old.output.ghost_name
@@ -95,15 +96,15 @@ pub record IsFresh {W : Type 0} (contents : W → Option (List ℕ)) (asked : Re
   pub works : new.failed ≡ false
   pub taken : HasTaken contents [] new new
 
--- True if the complete report on a list of days was written, or only a part of the report if a
--- write failed.
+-- True if the complete report on a list of days was written. If a write failed, true if a beginning
+-- of the report was written.
 abbrev pub IsFinished : {W : Type 0} → (W → Option (List ℕ)) → List DayTotal
     → (from to : ReportRows W) → Type 0
 IsFinished contents days from to = GotUnless to.failed (report_text from.form days)
     (contents from.output.now) (contents to.output.now)
 
--- The effect of `finish`: the complete report on all days that it received was written, unless a
--- write failed. The days must be fewer than 2^64.
+-- The effect of `finish` on a report that received fewer than 2^64 days. The complete report on all
+-- these days was written, or a beginning of it if a write failed.
 pub record Finishes {W : Type 0} (contents : W → Option (List ℕ)) (old new : ReportRows W)
     : Type 0 where
   pub output : new.output.ghost_name ≡ old.output.ghost_name

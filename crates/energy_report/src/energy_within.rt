@@ -19,7 +19,7 @@ pub struct EnergyWithin {
 impl EnergyWithin {
     ghost use Rattle.energy_report.specs.Energies.{IsFresh};
 
-    /// Creates a sum of 0 mWh, before any energy of a quarter hour is added.
+    /// Creates a sum of 0 mWh, to which the energies of quarter hours can be added.
     pub fn new(zone: Zone, range: DayRange) -> EnergyWithin
         ensures { IsFresh zone range result }
     {

@@ -28,7 +28,7 @@ pub enum EnergyUnit {
 /// The output format of a report or a statement.
 #[derive(Clone, Copy, Debug, PartialEq, Eq)]
 pub enum Format {
-    /// Lines of text for a reader, followed by a last line with the number of the lines before.
+    /// Lines of text for people. The last line has the number of lines before it.
     Text,
     /// A CSV table with a header, as in RFC 4180.
     Csv,

@@ -10,7 +10,8 @@ use energy_core::Cause;
 /// The number of rejected readings for each cause of rejection. Each count saturates at 2^64 - 1.
 #[derive(Clone, Copy)]
 pub struct RejectedCounts {
-    /// The counter showed 0, which SunSpec defines as an accumulator that does not count.
+    /// The counter showed 0. SunSpec defines this value as that of an accumulator that does not
+    /// count.
     pub not_accumulated: u64,
     /// The scale factor of the reading differed from the scale factor of the meter's last entry.
     pub scale_changed: u64,
@@ -24,7 +25,7 @@ pub struct RejectedCounts {
     pub too_fast: u64,
     /// The total energy of the meter would have exceeded its limit.
     pub total_full: u64,
-    /// The counter showed a number that is not below its range.
+    /// The counter showed a number that is not below the counter's range.
     pub not_below_range: u64,
 }
 
@@ -52,7 +53,7 @@ impl RejectedCounts {
         }
     }
 
-    /// Returns each cause of rejection with its count, in the order of the causes' numbers.
+    /// Returns each cause of rejection with its count, in the order of the causes' numeric codes.
     pub fn by_cause(&self) -> [HeldCount; 8]
         ensures { result ≡ held.by_cause self.now }
     {
@@ -92,8 +93,9 @@ impl RejectedCounts {
         ]
     }
 
-    // Returns the counts of rejected readings after one more rejected reading. If `counts` is true,
-    // the count of the reading's cause grows by one, otherwise no count changes.
+    // Returns the counts of rejected readings after one more reading, which was rejected for the
+    // cause `cause`. If `counts` is true, the count for this cause grows by one. Otherwise no count
+    // changes.
     pub(crate) fn with_one(&self, counts: bool, cause: Cause) -> RejectedCounts
         ensures { result ≡ held.with_one self.now counts cause }
     {

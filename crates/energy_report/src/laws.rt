@@ -1,10 +1,10 @@
-//! Theorems about reports for all lists of days. Each theorem is the contract of a function with an
+//! Theorems about reports on any list of days. Each theorem is the contract of a function with an
 //! empty body.
 ghost use Rattle.energy_report.specs.Laws.{PlainReportsAreListsOfDays, RangesAddUp, RowsAddUp, RowsAreShown, RowsAreWhole};
 ghost use Rattle.energy_report.specs.Periods.{PeriodsEndWithTheirLastDay};
 
-/// Proves for any period that the rows of a report add up to the energy and number of intervals of
-/// the days in the requested range.
+/// Proves for any period that the rows of a report add up to the energy and number of quarter hours
+/// of the requested days.
 pub fn rows_add_up()
     ensures { RowsAddUp }
 {}
@@ -21,13 +21,13 @@ pub fn ranges_add_up()
     ensures { RangesAddUp }
 {}
 
-/// Proves that each row of a report includes all days of its period, if the days are in order.
+/// Proves that, if the days of a report are in order, each row includes all days of its period.
 pub fn rows_are_whole()
     ensures { RowsAreWhole }
 {}
 
-/// Proves that a period (day, month or year) contains each day from a given day up to the period's
-/// last day, and no day after it.
+/// Proves that a period (day, month or year) contains, from a given day of the period on, exactly
+/// the days up to the period's last day.
 pub fn periods_end_with_their_last_day()
     ensures { PeriodsEndWithTheirLastDay }
 {}

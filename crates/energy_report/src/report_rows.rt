@@ -10,7 +10,8 @@ use script_text::Line;
 use std::io::Write;
 use sun_points::Sink;
 
-/// Writes the rows of a report. A row is written when a day of the next period arrives.
+/// Writes the rows of a report, whose days arrive one by one. A row is written when a day of the
+/// next period arrives.
 ///
 /// After a failed write, all later days are dropped.
 #[derive(Drop)]

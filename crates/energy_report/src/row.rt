@@ -28,8 +28,8 @@ impl Row {
         none.and(total)
     }
 
-    /// Returns the report row after the day `total` is added to the row. The number of quarter
-    /// hours saturates at 2^64 - 1, and the energy at 2^128 - 1 mWh.
+    /// Returns the report row with the day `total` added to it. The number of quarter hours
+    /// saturates at 2^64 - 1, and the energy at 2^128 - 1 mWh.
     pub fn and(&self, total: &DayTotal) -> Row
         ensures { result ≡ shown (joined self.now (row_of total.now)) }
     {

@@ -13,8 +13,8 @@ use script_text::{Line, Text, day_of_month, month_of, push_part, push_year};
 // The text of an energy in mWh or kWh, which has at most 46 characters.
 pub(crate) type Energy = Text<48>;
 
-/// Returns the text of a report row, preceded by the text that begins the report or separates two
-/// rows.
+/// Returns the text of a report row, preceded by the text before the row. Before the first row,
+/// this is the beginning of the report, otherwise the separator between two rows.
 pub(crate) fn row_piece(form: &ReportForm, is_first: bool, row: &Row) -> Line
     ensures { result ≡ text.lead is_first form.now ++ text.row_text form.now row.now }
 {
@@ -24,8 +24,8 @@ pub(crate) fn row_piece(form: &ReportForm, is_first: bool, row: &Row) -> Line
     line
 }
 
-/// Returns the text after the last of `count` rows of a report. If `count` is 0, the text also
-/// begins the report.
+/// Returns the text that a report writes at its end, after `count` rows. If `count` is 0, this text
+/// also contains the beginning of the report.
 pub(crate) fn last_piece(form: &ReportForm, count: u64) -> Line
     ensures { result ≡ text.last_text form.now count }
 {
@@ -158,7 +158,7 @@ fn count_width(period: Period) -> usize
     }
 }
 
-/// Returns the name of the period that contains a day, such as `2026-11-25`, `2026-11` or `2026`.
+/// Returns the text of the period that contains a day, such as `2026-11-25`, `2026-11` or `2026`.
 pub fn period_name(period: Period, day: Day) -> Line
     ensures { result ≡ text.period_text period day }
 {

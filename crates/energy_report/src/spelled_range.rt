@@ -13,15 +13,15 @@ pub enum RangeFault {
     /// The command line argument for the end of a report's range (the day after the last day) is
     /// not a civil day.
     Till,
-    /// The end of the range of days is before the first day.
+    /// The end of the range of days is before the range's first day.
     Backward,
 }
 
 #[derive(Clone, Copy)]
 struct NoDay;
 
-// Parses the command line argument for one end of a range of days. Without an argument, the range
-// is open at this end.
+// Parses the command line argument for one end of a range of days. If there is no argument, the
+// range is open at this end.
 fn read_end(word: Option<&str>) -> Result<Option<Day>, NoDay>
     ensures { MatchResult result (IsEnd word.entry) (λ none. IsNoEnd word.entry) }
 {
@@ -34,10 +34,10 @@ fn read_end(word: Option<&str>) -> Result<Option<Day>, NoDay>
     }
 }
 
-/// Parses a range of days from two command line arguments: the first day, and the end. Both
-/// arguments have the form `YYYY-MM-DD`, and the range excludes the day of its end.
+/// Parses a range of days from two command line arguments: the first day, and the day after the
+/// last day. Both arguments have the form `YYYY-MM-DD`.
 ///
-/// Without an argument, the range is open at this end.
+/// If an argument is `None`, the range is open at this end.
 pub fn read_range(from: Option<&str>, till: Option<&str>) -> Result<DayRange, RangeFault>
     ensures { MatchResult result (IsRange from.entry till.entry)
         (IsRangeFault from.entry till.entry) }

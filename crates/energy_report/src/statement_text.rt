@@ -17,12 +17,12 @@ use script_text::Text;
 use std::io::{self, Write};
 use sun_points::Sink;
 
-// The text of a row of a statement (billing report) and the separator before it, which has at most
-// 900 characters.
+// The text of a row of a statement (billing report) and of the separator before it, together at
+// most 900 characters.
 type Page = Text<1024>;
 
-/// Writes the statements (billing reports) of all meters. If a write fails, only the beginning of
-/// the text is written.
+/// Writes the statements (billing reports) of all meters. If a write fails, only a beginning of the
+/// text is written.
 pub fn write_statement<W: Write>(
     form: &StatementForm,
     rows: &[MeterStatement],
@@ -80,8 +80,8 @@ fn ending_page(form: &StatementForm, count: u64) -> Page
     page
 }
 
-// Returns the text of a row of a statement (billing report), preceded by the text that separates
-// two rows. Nothing precedes the first row.
+// Returns the text of a row of a statement (billing report). The separator between two rows
+// precedes it, unless the row is the first.
 fn row_page(form: &StatementForm, is_first: bool, row: &MeterStatement) -> Page
     ensures { result ≡ text.lead is_first form.now ++ text.row_text form.now row.now }
 {
@@ -122,8 +122,8 @@ fn push_row(page: &mut Page, form: &StatementForm, row: &MeterStatement)
     }
 }
 
-// Returns the energy in mWh that corresponds to the count of a counter, or 0 if the counter's scale
-// factor is out of range.
+// Returns the energy in mWh that the state of a counter shows, or 0 if the counter's scale factor
+// is out of range.
 fn reading_value(stand: &Last) -> u128
     ensures { result ≡ worth_of stand.now }
 {
@@ -250,8 +250,8 @@ fn push_counts(page: &mut Page, format: Format, held: &RejectedCounts) -> bool
     are_none
 }
 
-// Appends the text of a count of rejected readings that is not 0, preceded by a separator if the
-// count is not the first.
+// Appends the text of a count of rejected readings, preceded by a separator if the count is not the
+// first. Appends nothing if the count is 0.
 fn push_count(page: &mut Page, format: Format, is_first: bool, one: &HeldCount)
     requires { length page.old ≤ 910 }
     ensures bytes { page.new ≡ page.old ++ text.count_piece format is_first one.now }

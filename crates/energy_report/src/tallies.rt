@@ -1,4 +1,4 @@
-//! Counts the entries of a meter in a range of civil days.
+//! Tallies the entries of a meter in a range of civil days.
 ghost use Rattle.std.specs.Prelude.{◌≡◌, ◌&&◌, ◌++◌, ◌∷◌, [], List, Some, None, if◌then◌else◌};
 ghost use Rattle.std.specs.Option.{option_or};
 ghost use Rattle.office_books.specs.declared.entries.MeterEntry.{MeterEntry as Listed};
@@ -11,23 +11,23 @@ use interval_core::{DayRange, Zone};
 use meter_journal::EntryKind;
 use office_books::MeterEntry;
 
-/// The tally of a meter's entries in a range of days. The tally has the state of the counter at the
-/// first and the last entry, and the number of corrections.
+/// The tally of a meter's entries in a range of days. The tally has the counter's state after the
+/// first and after the last entry, and the numbers of corrections.
 ///
 /// Each number of corrections saturates at 2^64 - 1.
 #[derive(Clone, Copy)]
 pub struct EntryTally {
     /// The counter's state after the first and after the last valid entry in the range of days.
-    /// `None` without a valid entry.
+    /// `None` if there is no valid entry.
     pub first: Option<Last>,
     pub last: Option<Last>,
     /// The number of a meter's valid readings by hand in the range of days.
     pub by_hand: u64,
-    /// The numbers of a meter's valid resets and of valid rescales in the range of days.
+    /// The numbers of a meter's valid resets and valid rescales in the range of days.
     pub resets: u64,
     pub rescales: u64,
-    /// The number of voided (cancelled) entries. A voided entry counts if its own timestamp is in
-    /// the range, whenever it was voided.
+    /// The number of voided (cancelled) entries in the range of days. A voided entry counts if its
+    /// own timestamp is in the range, whenever it was voided.
     pub voids: u64,
 }
 

@@ -71,9 +71,9 @@ static CASES: [Case; 21] = [
         entry: step!(5_000_000, 5300, 0),
         answer: booked!(last!(5_000_000, 5300, 0), 2_701_800, 0),
     },
-    // Tests of steps (energy between two entries) over 3,000 quarter hours, which begin in the last
-    // second or in the first second of a quarter hour. Each step is also tested with one second
-    // more.
+    // Tests of steps (energy between two entries) over 3,000 quarter hours, the limit. A step
+    // begins in the last or in the first second of a quarter hour. Each step is also tested with
+    // one second more.
     Case {
         total: 0,
         last: last!(899, 5200, 0),

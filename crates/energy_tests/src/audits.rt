@@ -10,8 +10,8 @@ use meter_journal::audit::{
 };
 use std::test::Fail;
 
-/// A row of the entry table of a reading of 5200 counts at 1900 s. The meter was installed at 1000
-/// s with 5000 counts.
+/// A row of the entry table, for a reading of 5200 counts at 1900 s. The meter was installed at
+/// 1000 s with 5000 counts.
 const FIRST: TableRow = TableRow {
     place: 2,
     kind: RowKind::Reading,
@@ -23,7 +23,7 @@ const FIRST: TableRow = TableRow {
     is_voided: false,
 };
 
-/// A row of the entry table of a reading of 5300 counts at 2800 s.
+/// A row of the entry table, for a reading of 5300 counts at 2800 s.
 const SECOND: TableRow = TableRow {
     place: 3,
     kind: RowKind::Reading,

@@ -3,8 +3,8 @@ use crate::verdicts::ranged;
 use energy_core::{Acc32, Counter, Ranged};
 use std::process::Abort;
 
-/// A true count of pulses, and the number that the counter shows: the rest after all complete
-/// rollovers.
+/// A true count of pulses, and the number that the counter shows: the remainder of the count after
+/// all complete rollovers.
 struct Shown {
     count: u64,
     shown: u32,
@@ -47,7 +47,7 @@ fn shows<C: Counter>(rt: &impl Abort, counter: &C, range: u64, cases: &[Shown]) 
     }
 }
 
-/// Checks that a counter shows the rest of its true count after all complete rollovers.
+/// Checks that a counter shows the remainder of its true count after all complete rollovers.
 #[test]
 fn counters_show_the_count_without_its_turns(rt: HostRuntime) {
     shows(&rt, &Acc32, 4_294_967_296, &OF_32_BITS);

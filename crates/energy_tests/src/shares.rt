@@ -1,5 +1,5 @@
 //! Tests the shares of a step (the energy between two entries), one share for each quarter hour
-//! that it touches.
+//! that the step touches.
 use energy_core::Step;
 use interval_core::{INTERVAL, Share, Shares};
 use std::alloc::{AllocError, Global};
@@ -88,8 +88,8 @@ fn sum(shares: &[Share]) -> u64 {
     sum
 }
 
-/// Checks that the energy of a step (between two entries) is spread over the quarter hours that it
-/// touches.
+/// Checks that the energy of a step (between two entries) is spread over the quarter hours that the
+/// step touches.
 #[test]
 fn a_step_is_spread_over_its_intervals(rt: HostRuntime) {
     for (i, case) in CASES.iter().enumerate() {

@@ -91,7 +91,8 @@ static CASES: [Case; 22] = [
         reading: reading!(1900, 104, 0),
         verdict: held!(TooFast),
     },
-    // Test of a reading that is less than the last entry and cannot be a rollover.
+    // Test of a reading with a lower count than the last entry, if the time is too short for a
+    // rollover.
     Case {
         ceiling: 100_000,
         total: 0,
@@ -99,7 +100,8 @@ static CASES: [Case; 22] = [
         reading: reading!(2800, 5199, 0),
         verdict: held!(TooFast),
     },
-    // Tests of readings after the longest time in which the counter cannot complete a rollover.
+    // Tests of readings after the longest time in which the counter cannot complete a rollover, and
+    // one second later.
     Case {
         ceiling: 1_000_000,
         total: 0,
@@ -304,7 +306,7 @@ static GREATEST_RANGE: [Case; 22] = [
         held!(TooFast)
     ),
     // In 18 seconds, 1 W is 5 mWh, and the greatest ceiling (power limit) of 1 GW is 5,000 kWh. The
-    // counter may show one count more.
+    // counter may advance by one count more than this energy.
     case!(1, -3, 0, 1, 18, 7, accepted!(0, 6)),
     case!(1, -3, 0, 1, 18, 8, held!(TooFast)),
     case!(
@@ -325,9 +327,9 @@ static GREATEST_RANGE: [Case; 22] = [
     case!(1_000_000, 1, 0, 1, 900, 2, accepted!(0, 10_000)),
     case!(1_000_000, 2, 0, 1, 900, 2, accepted!(0, 100_000)),
     case!(1_000_000, 3, 0, 1, 900, 2, accepted!(0, 1_000_000)),
-    // Tests of steps (energy between two entries) over 3,000 quarter hours, which begin in the last
-    // second or in the first second of a quarter hour. Each step is also tested with one second
-    // more.
+    // Tests of steps (energy between two entries) over 3,000 quarter hours, the limit. A step
+    // begins in the last or in the first second of a quarter hour. Each step is also tested with
+    // one second more.
     case!(1000, 0, 899, 1, 2_700_000, 2, accepted!(0, 1000)),
     case!(1000, 0, 899, 1, 2_700_001, 2, held!(SpanTooLong)),
     case!(1000, 0, 900, 1, 2_700_900, 2, accepted!(0, 1000)),

@@ -1,10 +1,24 @@
 //! Audits database files of `sunreg`, and prints or checks a seal of a file. A seal is a signed-off
 //! digest of the file's past.
+ghost use Rattle.std.specs.Prelude.{◌≡◌, ◌↔◌, [], false, IsTrue, IfOk, OnOk};
+ghost use Rattle.std.specs.Io.KnownBytes.{Appends};
+ghost use Rattle.sqlite.specs.Held.{state};
+ghost use Rattle.sqlite.specs.State.{HasCleanDisk};
+ghost use Rattle.store_tables.specs.Content.{Content};
+ghost use Rattle.table_audit.specs.Looking.{HoldsRows, HoldsTables, OnlyLooks};
+ghost use Rattle.table_seals.specs.JoinTexts.{joined_text};
+ghost use Rattle.file_commands.specs.Audits.{Audits, AuditsFile, AuditsTables};
+ghost use Rattle.command_words.specs.declared.line.Sealing.TheVariants.{Against};
+ghost use Rattle.file_commands.specs.Audits.{EndsAudit, PrintsChecked, PrintsSeal, ending_of_audit};
+ghost use Rattle.file_commands.specs.JoinedAudits.{AuditsNext, AuditsPath, AuditsPaths};
+ghost use Rattle.file_commands.specs.JoinedAudits.{AuditsSeveral, EndsSeveral, JoinsNext, PrintsLine};
+
 use crate::files::{OfficeFiles, Opening};
 use crate::opening::open_in;
 use command_words::Sealing;
 use office_store::OpenFault;
 use sqlite::{Alter, Connection};
+use std::alloc::Global;
 use std::fs::{self, File};
 use std::io::{self, ErrorKind, Read, Write};
 use std::str::from_utf8;
@@ -13,6 +27,7 @@ use stored_files::{
     check_stored_seal, hold_to_earlier, meters_stored, read_zone_text, seal_stored, write_audit,
     write_checked, write_joins, write_seal,
 };
+use sun_points::Sink;
 
 /// The maximum length of a seal (a digest of a file's past) that the command `audit` reads, in
 /// bytes. A seal of 4,096 meters, each with a thousand voided (cancelled) entries, is shorter.
@@ -22,60 +37,112 @@ const MOST_SEAL: u64 = 300_000_000;
 const SEAL_BEGIN: &[u8; 5] = b"seal ";
 
 // Prints the seal of a database: a signed-off digest of its past.
-fn print_seal<S: Alter>(
-    rt: &HostRuntime,
+fn print_seal<S: Alter, W: Write>(
+    alloc: Global,
     connection: &mut Connection<S>,
-) -> Result<bool, AuditFault> {
-    let seal = seal_stored(rt.alloc(), connection)?;
-    let mut output = io::writer(rt);
-    write_seal(rt.alloc(), &seal, &mut output)?;
+    output: &mut W,
+) -> Result<bool, AuditFault>
+    ensures looks { connection.old.in_transaction ≡ false
+        → OnlyLooks S.Store connection.old connection.new }
+    ensures prints { HasCleanDisk (state S.Store connection.new) → (content : Content)
+        → HoldsRows S.Store connection.old content
+        → IfOk result (PrintsSeal content (W.contents output.old) (W.contents output.new)) }
+{
+    let seal = seal_stored(alloc, connection)?;
+    write_seal(alloc, &seal, output)?;
     Ok(true)
 }
 
 // Compares the tables of a database with a seal, a signed-off digest of their past, and prints the
 // result. Returns whether the tables still match the seal.
-fn hold_to<S: Alter>(
-    rt: &HostRuntime,
+fn hold_to<S: Alter, W: Write>(
+    alloc: Global,
     connection: &mut Connection<S>,
     text: &str,
-) -> Result<bool, AuditFault> {
-    let checked = check_stored_seal(rt.alloc(), connection, text)?;
-    let mut output = io::writer(rt);
-    write_checked(rt.alloc(), &checked, &mut output)
+    output: &mut W,
+) -> Result<bool, AuditFault>
+    ensures looks { connection.old.in_transaction ≡ false
+        → OnlyLooks S.Store connection.old connection.new }
+    ensures prints { HasCleanDisk (state S.Store connection.new) → (content : Content)
+        → HoldsRows S.Store connection.old content
+        → IfOk result (PrintsChecked content text.now
+        (W.contents output.old) (W.contents output.new)) }
+{
+    let checked = check_stored_seal(alloc, connection, text)?;
+    write_checked(alloc, &checked, output)
 }
 
-// Audits the tables of a database, and returns whether no difference was found. In that case,
-// prints a seal (a digest of the tables) or compares the tables with a seal, as `seal` requests.
-fn audit_over<S: Alter>(
-    rt: &HostRuntime,
+// Audits the tables of a database whose row of `meta` was checked.
+fn audit_marked<S: Alter, W: Write>(
+    alloc: Global,
     connection: &mut Connection<S>,
     seal: Sealing<'_>,
-) -> Result<bool, AuditFault> {
-    check_mark(connection)?;
-    let findings = audit_stored(rt.alloc(), connection)?;
-    if findings.is_fine() {
-        match seal {
-            Sealing::Nothing => {}
-            Sealing::Print => return print_seal(rt, connection),
-            Sealing::Against(text) => return hold_to(rt, connection, text),
-        }
+    output: &mut W,
+) -> Result<bool, AuditFault>
+    ensures looks { connection.old.in_transaction ≡ false
+        → OnlyLooks S.Store connection.old connection.new }
+    ensures audits { HasCleanDisk (state S.Store connection.new) → (content : Content)
+        → HoldsRows S.Store connection.old content
+        → IfOk result (Audits content seal.entry
+        (W.contents output.old) (W.contents output.new)) }
+{
+    let findings = audit_stored(alloc, connection)?;
+    if !findings.is_fine() {
+        return write_audit(alloc, &findings, output);
     }
-    let mut output = io::writer(rt);
-    write_audit(rt.alloc(), &findings, &mut output)
+    match seal {
+        Sealing::Nothing => write_audit(alloc, &findings, output),
+        Sealing::Print => print_seal(alloc, connection, output),
+        Sealing::Against(text) => hold_to(alloc, connection, text, output),
+    }
+}
+
+// Audits the tables of a database. If they follow the rules, also prints a seal (a digest of the
+// tables) or compares the tables with a seal, as `seal` requests. Returns whether the audit and the
+// comparison found no discrepancy.
+fn audit_over<S: Alter, W: Write>(
+    alloc: Global,
+    connection: &mut Connection<S>,
+    seal: Sealing<'_>,
+    output: &mut W,
+) -> Result<bool, AuditFault>
+    ensures idle { OnOk result (connection.old.in_transaction ≡ false) }
+    ensures ours { OnOk result ((content : Content) → HoldsRows S.Store connection.old content
+        → HoldsTables S.Store connection.old content) }
+    ensures looks { connection.old.in_transaction ≡ false
+        → OnlyLooks S.Store connection.old connection.new }
+    ensures audits { HasCleanDisk (state S.Store connection.new) → (content : Content)
+        → HoldsRows S.Store connection.old content
+        → IfOk result (AuditsTables content seal.entry
+        (W.contents output.old) (W.contents output.new)) }
+{
+    check_mark(connection)?;
+    audit_marked(alloc, connection, seal, output)
+}
+
+// Returns why a database file could not be audited.
+fn unaudited(path: &str, fault: AuditFault) -> Failure<'_> {
+    match fault {
+        AuditFault::Output => Failure::Streams,
+        fault => Failure::Unaudited { path, fault },
+    }
 }
 
 // Audits the tables of the database at a path.
-fn audit_in<'a, D: Databases>(
+fn audit_in<'a, D: Databases, W: Write>(
     rt: &HostRuntime,
     databases: &D,
     path: &'a str,
     seal: Sealing<'_>,
-) -> Result<bool, Failure<'a>> {
+    output: &mut W,
+) -> Result<bool, Failure<'a>>
+    ensures { IfOk result (AuditsFile D.Store.Store (D.opens databases.now) path.now seal.entry
+        (W.contents output.old) (W.contents output.new)) }
+{
     let mut connection = open_in(rt, databases, path)?;
-    match audit_over(rt, &mut connection, seal) {
+    match audit_over(rt.alloc(), &mut connection, seal, output) {
         Ok(fine) => Ok(fine),
-        Err(AuditFault::Output) => Err(Failure::Streams),
-        Err(fault) => Err(Failure::Unaudited { path, fault }),
+        Err(fault) => Err(unaudited(path, fault)),
     }
 }
 
@@ -113,7 +180,9 @@ fn seal_in(rt: &HostRuntime, file: &str) -> io::Result<Option<Vec<u8>>> {
     Ok(Some(bytes))
 }
 
-fn ended(reported: Result<bool, Failure<'_>>) -> Ending<'_> {
+fn ended(reported: Result<bool, Failure<'_>>) -> Ending<'_>
+    ensures { result ≡ ending_of_audit reported.entry }
+{
     match reported {
         Ok(true) => Ending::Fine,
         Ok(false) => Ending::Refused,
@@ -123,12 +192,16 @@ fn ended(reported: Result<bool, Failure<'_>>) -> Ending<'_> {
 
 // Audits the tables of a database, and compares them with the seal (a digest of their past) in a
 // file.
-fn audit_against<'a, D: Databases>(
+fn audit_against<'a, D: Databases, W: Write>(
     rt: &HostRuntime,
     databases: &D,
     path: &'a str,
     file: &'a str,
-) -> Ending<'a> {
+    output: &mut W,
+) -> Ending<'a>
+    ensures { EndsAudit D.Store.Store (D.opens databases.now) path.now (Against file.entry)
+        (W.contents output.old) (W.contents output.new) result }
+{
     let bytes = match seal_in(rt, file) {
         Ok(Some(bytes)) => bytes,
         Ok(None) => return Ending::NoSeal(file),
@@ -142,7 +215,7 @@ fn audit_against<'a, D: Databases>(
     let Ok(text) = from_utf8(bytes.as_slice()) else {
         return Ending::NoSeal(file);
     };
-    match audit_in(rt, databases, path, Sealing::Against(text)) {
+    match audit_in(rt, databases, path, Sealing::Against(text), output) {
         Err(
             Failure::Unaudited {
                 fault: AuditFault::NoSeal,
@@ -156,16 +229,21 @@ fn audit_against<'a, D: Databases>(
 /// Audits a database file: checks that its rows follow the rules for meter entries and polls. If
 /// requested, also prints a seal (a digest of the rows), or compares the rows with a seal. Writes
 /// nothing to the database file.
-pub fn audit<'a, D: OfficeFiles>(
+pub fn audit<'a, D: OfficeFiles, W: Write>(
     rt: &HostRuntime,
     files: &D,
     path: &'a str,
     seal: Sealing<'a>,
-) -> Ending<'a> {
+    output: &mut W,
+) -> Ending<'a>
+    ensures { EndsAudit D.Store.Store (D.opens files.now) path.now seal.entry
+        (W.contents output.old) (W.contents output.new) result }
+{
     let copies = files.opened(Opening::Copied);
     match seal {
-        Sealing::Against(file) => audit_against(rt, &copies, path, file),
-        Sealing::Nothing | Sealing::Print => ended(audit_in(rt, &copies, path, seal)),
+        Sealing::Against(file) => audit_against(rt, &copies, path, file, output),
+        Sealing::Nothing => ended(audit_in(rt, &copies, path, Sealing::Nothing, output)),
+        Sealing::Print => ended(audit_in(rt, &copies, path, Sealing::Print, output)),
     }
 }
 
@@ -184,74 +262,140 @@ fn zone_fault(fault: OpenFault) -> AuditFault {
 // Checks whether a database file continues the earlier files: its meters must begin with their last
 // entries in those files.
 fn join_next<'a, S: Alter>(
-    rt: &HostRuntime,
+    alloc: Global,
     connection: &mut Connection<S>,
     file: &'a str,
     joining: &mut Joining<'a>,
-) -> Result<(), AuditFault> {
-    let meters = meters_stored(rt.alloc(), connection, file)?;
+) -> Result<(), AuditFault>
+    ensures clean { connection.old.in_transaction ≡ false
+        → HasCleanDisk (state S.Store connection.new)
+        → HasCleanDisk (state S.Store connection.old) }
+    ensures joins { HasCleanDisk (state S.Store connection.new) → (content : Content)
+        → HoldsRows S.Store connection.old content
+        → OnOk result (JoinsNext file.now content joining.old joining.new) }
+{
+    let meters = meters_stored(alloc, connection, file)?;
     match read_zone_text(connection) {
-        Ok(zone) => hold_to_earlier(rt.alloc(), joining, file, zone, meters),
+        Ok(zone) => hold_to_earlier(alloc, joining, file, zone, meters),
         Err(fault) => Err(zone_fault(fault)),
     }
 }
 
-// Audits the tables of one of several successive database files, and returns whether no difference
-// was found. If no file so far has differences, also checks whether this file continues the earlier
-// files.
-fn audit_next<'a, S: Alter>(
-    rt: &HostRuntime,
+// Audits the tables of one of several successive database files. If this file and all earlier files
+// (`so_far`) follow the rules, also checks whether this file continues the earlier files. Returns
+// whether all files audited until now follow the rules.
+fn audit_next<'a, S: Alter, W: Write>(
+    alloc: Global,
     connection: &mut Connection<S>,
     file: &'a str,
     so_far: bool,
     joining: &mut Joining<'a>,
-) -> Result<bool, AuditFault> {
-    let fine = audit_over(rt, connection, Sealing::Nothing)?;
-    if fine && so_far {
-        join_next(rt, connection, file, joining)?;
+    output: &mut W,
+) -> Result<bool, AuditFault>
+    ensures { HasCleanDisk (state S.Store connection.new) → (content : Content)
+        → HoldsRows S.Store connection.old content
+        → IfOk result (AuditsNext file.now content so_far joining.old joining.new
+        (W.contents output.old) (W.contents output.new)) }
+{
+    if !audit_over(alloc, connection, Sealing::Nothing, output)? {
+        return Ok(false);
     }
-    Ok(fine && so_far)
+    if !so_far {
+        return Ok(false);
+    }
+    join_next(alloc, connection, file, joining)?;
+    Ok(true)
+}
+
+// Prints a line with the name of a database file.
+fn print_name<W: Write>(alloc: Global, path: &str, output: &mut W) -> Result<(), Failure<'static>>
+    ensures { OnOk result (PrintsLine (W.contents output.old) (W.contents output.new)) }
+{
+    let Ok(line) = format!(in alloc; "file {}\n", Named(path)) else {
+        return Err(Failure::Memory);
+    };
+    match output.take_text(line.as_bytes()) {
+        Ok(()) => Ok(()),
+        Err(_) => Err(Failure::Streams),
+    }
 }
 
 // Prints a line with the name of a database file, and audits the file.
-fn audit_file<'a, D: Databases>(
+fn audit_file<'a, D: Databases, W: Write>(
     rt: &HostRuntime,
     databases: &D,
     path: &'a str,
     so_far: bool,
     joining: &mut Joining<'a>,
-) -> Result<bool, Failure<'a>> {
-    if write!(io::writer(rt), "file {}\n", Named(path)).is_err() {
-        return Err(Failure::Streams);
-    }
+    output: &mut W,
+) -> Result<bool, Failure<'a>>
+    ensures { IfOk result (AuditsPath D.Store.Store (D.opens databases.now) path.now so_far
+        joining.old joining.new (W.contents output.old) (W.contents output.new)) }
+{
+    print_name(rt.alloc(), path, output)?;
     let mut connection = open_in(rt, databases, path)?;
-    match audit_next(rt, &mut connection, path, so_far, joining) {
+    match audit_next(rt.alloc(), &mut connection, path, so_far, joining, output) {
         Ok(fine) => Ok(fine),
-        Err(AuditFault::Output) => Err(Failure::Streams),
-        Err(fault) => Err(Failure::Unaudited { path, fault }),
+        Err(fault) => Err(unaudited(path, fault)),
     }
 }
 
-// Audits the files at the given paths in order. Returns whether no file has differences, and each
-// file continues the previous file.
-fn audit_files<'a, D: Databases>(
+// Audits the files at the given paths in order. Returns whether no difference was found in them or
+// in the files before (`so_far`).
+fn audit_paths<'a, D: Databases, W: Write>(
     rt: &HostRuntime,
     databases: &D,
     paths: &[&'a str],
-) -> Result<bool, Failure<'a>> {
-    let mut joining = Joining::new(rt.alloc());
-    let mut fine = true;
-    for path in paths {
-        fine = audit_file(rt, databases, *path, fine, &mut joining)?;
+    so_far: bool,
+    joining: &mut Joining<'a>,
+    output: &mut W,
+) -> Result<bool, Failure<'a>>
+    ensures { IfOk result (AuditsPaths D.Store.Store (D.opens databases.now) paths.now so_far
+        joining.old joining.new (W.contents output.old) (W.contents output.new)) }
+{
+    match paths {
+        [] => Ok(so_far),
+        [path, rest @ ..] => {
+            let fine = audit_file(rt, databases, *path, so_far, joining, output)?;
+            audit_paths(rt, databases, rest, fine, joining, output)
+        }
     }
-    if !fine {
-        return Ok(false);
-    }
-    let mut output = io::writer(rt);
-    match write_joins(rt.alloc(), joining.lines.as_slice(), &mut output) {
+}
+
+// Prints the differences between files that have no differences in themselves. Returns whether
+// there are none.
+fn print_joins<W: Write>(
+    alloc: Global,
+    joining: &Joining<'_>,
+    output: &mut W,
+) -> Result<bool, Failure<'static>>
+    ensures fine { IfOk result (λ fine. IsTrue fine ↔ (joining.now.lines.items ≡ [])) }
+    ensures reported { OnOk result (Appends (W.contents output.old) (W.contents output.new)
+        (joined_text joining.now.lines.items)) }
+{
+    match write_joins(alloc, joining.lines.as_slice(), output) {
         Ok(joined) => Ok(joined),
         Err(AuditFault::Memory) => Err(Failure::Memory),
         Err(_) => Err(Failure::Streams),
+    }
+}
+
+// Audits the files at the given paths in order. Returns whether all files follow the rules, and
+// each file continues the previous file.
+fn audit_files<'a, D: Databases, W: Write>(
+    rt: &HostRuntime,
+    databases: &D,
+    paths: &[&'a str],
+    output: &mut W,
+) -> Result<bool, Failure<'a>>
+    ensures { IfOk result (AuditsSeveral D.Store.Store (D.opens databases.now) paths.now
+        (W.contents output.old) (W.contents output.new)) }
+{
+    let mut joining = Joining::new(rt.alloc());
+    if audit_paths(rt, databases, paths, true, &mut joining, output)? {
+        print_joins(rt.alloc(), &joining, output)
+    } else {
+        Ok(false)
     }
 }
 
@@ -267,13 +411,17 @@ fn twice<'a>(paths: &[&'a str]) -> Option<&'a str> {
 
 /// Audits successive database files, the oldest first, and checks whether each file continues the
 /// previous file. Writes nothing to the files, and opens one at a time.
-pub fn audit_several<'a, D: OfficeFiles>(
+pub fn audit_several<'a, D: OfficeFiles, W: Write>(
     rt: &HostRuntime,
     files: &D,
     paths: &[&'a str],
-) -> Ending<'a> {
+    output: &mut W,
+) -> Ending<'a>
+    ensures { EndsSeveral D.Store.Store (D.opens files.now) paths.now
+        (W.contents output.old) (W.contents output.new) result }
+{
     if let Some(path) = twice(paths) {
         return Ending::Twice(path);
     }
-    ended(audit_files(rt, &files.opened(Opening::Copied), paths))
+    ended(audit_files(rt, &files.opened(Opening::Copied), paths, output))
 }

@@ -1,4 +1,9 @@
 //! Rolls a database over into a new file, in which each open meter continues from its last entry.
+ghost use Rattle.std.specs.Prelude.{◌≡◌, ◌⊎◌, None, IfOk};
+ghost use Rattle.stored_files.specs.declared.ends.ending.Ending.TheVariants.{Refused, Failed};
+ghost use Rattle.stored_files.specs.declared.ends.failure.Failure.TheVariants.{Streams};
+ghost use Rattle.file_commands.specs.Rollovers.{Carries, CarriesFile, EndsCarry};
+
 use crate::copies::{Pair, make_whole, remove};
 use crate::escaped::Escaped;
 use crate::files::{OfficeFiles, Opening};
@@ -66,7 +71,9 @@ fn carry_into_part<'a, D: Databases>(
     old: Connection<D::Store>,
     it: Rollover<'a>,
     part: &Pair,
-) -> Result<u64, NotCarried<'a>> {
+) -> Result<u64, NotCarried<'a>>
+    ensures { IfOk result (Carries D.Store.Store old it.entry.until) }
+{
     match databases.make(part.file.as_str()) {
         Ok(new) => match carry_stored(rt.alloc(), old, new, it.until) {
             Ok(count) => Ok(count),
@@ -100,7 +107,9 @@ fn carry_whole<'a, D: Databases>(
     old: Connection<D::Store>,
     it: Rollover<'a>,
     part: &Pair,
-) -> Result<u64, NotCarried<'a>> {
+) -> Result<u64, NotCarried<'a>>
+    ensures { IfOk result (Carries D.Store.Store old it.entry.until) }
+{
     let count = match carry_into_part(rt, databases, old, it, part) {
         Ok(count) => count,
         Err(why) => return Err(why),
@@ -123,7 +132,9 @@ pub fn carry_open<'a, D: Databases>(
     from: &'a str,
     old: Connection<D::Store>,
     to: &'a str,
-) -> Result<u64, NotCarried<'a>> {
+) -> Result<u64, NotCarried<'a>>
+    ensures { IfOk result (Carries D.Store.Store old None) }
+{
     let part = match begin_part_again(rt, databases, to) {
         Ok(part) => part,
         Err(failure) => return Err(NotCarried::Failed(failure)),
@@ -141,8 +152,8 @@ pub fn carry_open<'a, D: Databases>(
 }
 
 // Prints the number of meters that continue in the new file.
-fn say_carried(rt: &HostRuntime, count: u64) -> Ending<'static> {
-    match write!(io::writer(rt), "carried {count} meters\n") {
+fn say_carried<W: Write>(count: u64, output: &mut W) -> Ending<'static> {
+    match write!(output, "carried {count} meters\n") {
         Ok(()) => Ending::Fine,
         Err(_) => Ending::Failed(Failure::Streams),
     }
@@ -181,14 +192,22 @@ pub fn write_why<W: Write>(errors: &mut W, why: &NotCarried<'_>) -> io::Result<(
     }
 }
 
-fn print_refusal(rt: &HostRuntime, why: Refusal) -> io::Result<()> {
+fn print_refusal<W: Write>(why: Refusal, output: &mut W) -> io::Result<()> {
     let number = why.number();
-    write!(io::writer(rt), "refused {number}\n")
+    write!(output, "refused {number}\n")
 }
 
-/// Prints a refusal, and reports its meaning on standard error, with the path of the database file.
-pub(crate) fn say_refused(rt: &HostRuntime, path: &str, why: Refusal) -> Ending<'static> {
-    if print_refusal(rt, why).is_err() {
+/// Prints the numeric code of a refusal. Reports the meaning of the refusal on standard error, with
+/// the path of the database file.
+pub(crate) fn say_refused<W: Write>(
+    rt: &HostRuntime,
+    path: &str,
+    why: Refusal,
+    output: &mut W,
+) -> Ending<'static>
+    ensures { (result ≡ Refused) ⊎ (result ≡ Failed Streams) }
+{
+    if print_refusal(why, output).is_err() {
         return Ending::Failed(Failure::Streams);
     }
     let mut errors = Escaped::new(rt.stderr());
@@ -197,7 +216,9 @@ pub(crate) fn say_refused(rt: &HostRuntime, path: &str, why: Refusal) -> Ending<
 }
 
 // Reports on standard error that a meter has no entry at or before the requested time.
-fn say_not_yet(rt: &HostRuntime, path: &str, meter: &Name) -> Ending<'static> {
+fn say_not_yet(rt: &HostRuntime, path: &str, meter: &Name) -> Ending<'static>
+    ensures { result ≡ Refused }
+{
     let mut errors = Escaped::new(rt.stderr());
     let _said = write_not_yet(&mut errors, path, meter);
     Ending::Refused
@@ -209,7 +230,10 @@ fn carry_in<'a, D: Databases>(
     databases: &D,
     it: Rollover<'a>,
     part: &Pair,
-) -> Result<u64, NotCarried<'a>> {
+) -> Result<u64, NotCarried<'a>>
+    ensures { IfOk result (CarriesFile D.Store.Store (D.opens databases.now)
+        it.entry.from.now it.entry.until) }
+{
     match open_in(rt, databases, it.from) {
         Ok(old) => carry_whole(rt, databases, old, it, part),
         Err(failure) => Err(NotCarried::Failed(failure)),
@@ -218,17 +242,21 @@ fn carry_in<'a, D: Databases>(
 
 // Rolls a file over into a new file, and renames that file to its final name. On failure, removes
 // the incomplete file.
-fn carry_into<'a, D: Databases>(
+fn carry_into<'a, D: Databases, W: Write>(
     rt: &HostRuntime,
     databases: &D,
     it: Rollover<'a>,
     part: &Pair,
-) -> Ending<'a> {
+    output: &mut W,
+) -> Ending<'a>
+    ensures { EndsCarry D.Store.Store (D.opens databases.now) it.entry.from.now it.entry.until
+        result }
+{
     let ending = match carry_in(rt, databases, it, part) {
-        Ok(count) => return say_carried(rt, count),
+        Ok(count) => return say_carried(count, output),
         Err(why) => match why {
             NotCarried::Failed(failure) => Ending::Failed(failure),
-            NotCarried::Refused { path, why } => say_refused(rt, path, why),
+            NotCarried::Refused { path, why } => say_refused(rt, path, why, output),
             NotCarried::NotYet { path, meter } => say_not_yet(rt, path, &meter),
         },
     };
@@ -236,24 +264,33 @@ fn carry_into<'a, D: Databases>(
     ending
 }
 
+fn widen(moment: Option<u32>) -> Option<u64>
+    ensures { result ≡ moment }
+{
+    match moment {
+        Some(moment) => Some(u64::from(moment)),
+        None => None,
+    }
+}
+
 /// Begins a new database file in which each open meter continues from its last entry. With `until`,
 /// each meter continues from its last entry up to that time. Reads the old file through a temporary
 /// copy, so another process may be using that file.
-pub fn carry<'a, D: OfficeFiles>(
+pub fn carry<'a, D: OfficeFiles, W: Write>(
     rt: &HostRuntime,
     files: &D,
     from: &'a str,
     to: &'a str,
     until: Option<u32>,
-) -> Ending<'a> {
+    output: &mut W,
+) -> Ending<'a>
+    ensures { EndsCarry D.Store.Store (D.opens files.now) from.now until result }
+{
     let part = match begin_part(rt, to) {
         Ok(part) => part,
         Err(failure) => return Ending::Failed(failure),
     };
-    let until = match until {
-        Some(moment) => Some(u64::from(moment)),
-        None => None,
-    };
+    let until = widen(until);
     let copies = files.opened(Opening::Copied);
-    carry_into(rt, &copies, Rollover { from, to, until }, &part)
+    carry_into(rt, &copies, Rollover { from, to, until }, &part, output)
 }

@@ -113,8 +113,8 @@ pub(crate) fn copy_settled(rt: &HostRuntime, source: &Pair, copy: &Pair) -> io::
     Ok(false)
 }
 
-// Returns whether the write-ahead log of a copied file has lost no commit. Fails if the log cannot
-// be checked.
+// Returns whether the write-ahead log of a copied file still has all its commits. Fails if the log
+// cannot be checked.
 fn is_sound(rt: &HostRuntime, copy: &Pair) -> io::Result<bool> {
     match check_beside(rt, copy.file.as_str()) {
         Ok(()) => Ok(true),

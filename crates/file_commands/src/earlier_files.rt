@@ -1,8 +1,8 @@
 //! Reads earlier database files, whose energy the command `run` also reports.
 use crate::carries::write_refusal;
 use crate::files::{OfficeFiles, Opening};
-use crate::joined_reports::{NotJoined, join_in, last_of};
-use carried_books::{ComparedRegisters, EarlierRegister, Keeping, KeptRegisters};
+use crate::joined_reports::{NotJoined, join_in, join_paths, last_of};
+use carried_books::{ComparedRegisters, EarlierRegister, KeptRegisters};
 use interval_core::DayRange;
 use office_events::Name;
 use std::io::Write;
@@ -12,53 +12,17 @@ use stored_files::{Databases, Ending, Failure, JoinedOffice};
 // because the energy of all registers is read.
 const ANY: &[u8] = b"any";
 
-// Adds the energy of all accounting registers (named counters) in a database file to the sums of
-// the earlier files. If the file does not continue the earlier files, reports the reason.
-fn join<'a, D: Databases, K: Keeping, E: Write>(
-    rt: &HostRuntime,
-    databases: &D,
-    joined: Option<JoinedOffice<K>>,
-    before: &str,
-    path: &'a str,
-    any: &Name,
-    is_new: bool,
-    errors: &mut E,
-) -> Result<JoinedOffice<K>, Ending<'a>> {
-    let all = DayRange::all();
-    match join_in(
-        rt, databases, joined, before, path, any, &all, is_new, errors,
-    ) {
-        Ok(next) => Ok(next),
-        Err(why) => match why {
-            NotJoined::Failed(failure) => Err(Ending::Failed(failure)),
-            NotJoined::Refused(why) => {
-                let _said = write_refusal(errors, path, why);
-                Err(Ending::Refused)
-            }
-            NotJoined::Apart => Err(Ending::Refused),
-        },
-    }
-}
-
-// Returns the energy of all accounting registers (named counters) in several database files, summed
-// over the files. Reads the files in order, and opens one file at a time.
-fn keep_all<'a, D: Databases, E: Write>(
-    rt: &HostRuntime,
-    databases: &D,
-    paths: &[&'a str],
-    any: &Name,
-    errors: &mut E,
-) -> Result<Option<JoinedOffice<KeptRegisters>>, Ending<'a>> {
-    let mut joined = None;
-    let mut before = "";
-    for path in paths {
-        match join(rt, databases, joined, before, *path, any, false, errors) {
-            Ok(next) => joined = Some(next),
-            Err(ending) => return Err(ending),
+// Writes why a file could not be added to the sums of the earlier files. Returns how the command
+// ends.
+fn end_unjoined<'a, E: Write>(errors: &mut E, why: NotJoined<'a>) -> Ending<'a> {
+    match why {
+        NotJoined::Failed(failure) => Ending::Failed(failure),
+        NotJoined::Refused { path, why } => {
+            let _said = write_refusal(errors, path, why);
+            Ending::Refused
         }
-        before = *path;
+        NotJoined::Apart => Ending::Refused,
     }
-    Ok(joined)
 }
 
 // Returns the accounting registers of the earlier database files, each with its energy summed over
@@ -88,9 +52,10 @@ fn hold<'a, D: Databases, E: Write>(
     let JoinedOffice { zone, kept } = joined;
     let kept = ComparedRegisters { kept };
     let held = Some(JoinedOffice { zone, kept });
-    match join(rt, databases, held, before, path, any, is_new, errors) {
+    let all = DayRange::all();
+    match join_in(rt, databases, held, before, path, any, &all, is_new, errors) {
         Ok(held) => registers_of(held),
-        Err(ending) => Err(ending),
+        Err(why) => Err(end_unjoined(errors, why)),
     }
 }
 
@@ -100,8 +65,8 @@ pub fn but_last<'a, 'f>(paths: &'f [&'a str]) -> &'f [&'a str] {
     &paths[..count]
 }
 
-// Reports how many earlier database files the energy of the command `run` includes, and the name of
-// the first file.
+// Reports how many earlier database files the energy figures of the command `run` include, and the
+// name of the first file.
 fn say_earlier<E: Write>(errors: &mut E, current: &str, paths: &[&str]) {
     if let Some(first) = paths.first() {
         let count = paths.len();
@@ -129,8 +94,9 @@ pub fn earlier_registers<'a, D: OfficeFiles, E: Write>(
         return Err(Ending::Failed(Failure::Memory));
     };
     let readable = files.opened(Opening::ToRead);
-    match keep_all(rt, &readable, paths, &any, errors) {
-        Err(ending) => Err(ending),
+    let all = DayRange::all();
+    match join_paths(rt, &readable, None, "", paths, &any, &all, errors) {
+        Err(why) => Err(end_unjoined(errors, why)),
         Ok(None) => Ok(Vec::new(rt.alloc())),
         Ok(Some(joined)) => {
             let before = last_of(paths);

@@ -18,11 +18,16 @@ pub enum Opening {
 /// A way to open database files. Each command chooses how its files are opened.
 ///
 /// Commands are generic over this trait for the sake of the proofs: the prover needs half a minute
-/// for each call over the files of the operating system. Only the program's outermost call names
-/// the system's files.
+/// for each call that uses the files of the operating system. Only the program's outermost call
+/// names the system's files.
 pub trait OfficeFiles: Databases + Copy {
-    /// Returns the same way to open files, but with each file opened as `opening` says.
-    fn opened(&self, opening: Opening) -> Self;
+    ghost use Rattle.std.specs.Prelude.{ℕ, List};
+    ghost use Rattle.sqlite.specs.Held.{Held};
+
+    /// Returns access to the same files, but with each file opened as `opening` says.
+    fn opened(&self, opening: Opening) -> Self
+        ensures { (path : List ℕ) (connection : Held Self.Store) → Self.opens result path connection
+            → Self.opens self.now path connection };
 }
 
 /// The files of the operating system, and how they are opened.
@@ -48,6 +53,8 @@ impl OfficeFiles for Files<'_> {
 
 impl Databases for Files<'_> {
     type Store = FileStore<FileFrom<Unknown>>;
+
+    ghost opens = { λ files path connection. Unit {0} };
 
     fn make(&self, path: &str) -> Result<Connection<FileStore<FileFrom<Unknown>>>, FileFault> {
         make_file(self.rt, path, Unknown)

@@ -1,5 +1,11 @@
 //! Prints reports on an accounting register (a named counter of a device) over several successive
 //! database files.
+ghost use Rattle.std.specs.Prelude.{◌≡◌, ◌⊎◌, IfOk};
+ghost use Rattle.stored_files.specs.declared.ends.ending.Ending.TheVariants.{Failed};
+ghost use Rattle.stored_files.specs.declared.ends.failure.Failure.TheVariants.{Streams};
+ghost use Rattle.file_commands.specs.JoinedReports.{JoinsPath, ReportsOne, StatesOne};
+ghost use Rattle.file_commands.specs.JoinedReports.{StatesRecorded};
+
 use crate::carries::say_refused;
 use crate::escaped::Escaped;
 use crate::files::{OfficeFiles, Opening};
@@ -8,12 +14,12 @@ use crate::opening::open_reporting;
 use carried_books::{
     Apart, JoinedFiles, JoinedStatement, Keeping, Unjoined, report_joined, state_joined,
 };
-use command_io::{Buffered, ExitStatus};
 use command_words::FormWords;
 use energy_report::{ReportForm, StatementForm};
 use interval_core::DayRange;
 use office_events::{Installation, Name, Refusal};
-use std::io::{self, Write};
+use std::alloc::Global;
+use std::io::Write;
 use std::str::from_utf8;
 use stored_files::{
     Databases, Ending, Failure, JoinFault, JoinedOffice, Named, ending_of, join_stored,
@@ -97,14 +103,14 @@ fn say_other_zone<E: Write>(errors: &mut E, before: &str, path: &str) {
 #[derive(Drop)]
 pub(crate) enum NotJoined<'a> {
     Failed(Failure<'a>),
-    /// The store in the file failed, or memory ran out.
-    Refused(Refusal),
+    /// The store in the file at `path` failed, or memory ran out.
+    Refused { path: &'a str, why: Refusal },
     /// The file does not continue the earlier files. The program has already reported the reason.
     Apart,
 }
 
-// Converts the fault when a file could not be added to a report over several files. If the file
-// does not continue the earlier files, also reports the reason.
+// Converts the fault that occurred when a file could not be added to a report over several files.
+// If the file does not continue the earlier files, also reports the reason.
 fn not_joined<'a, E: Write>(
     errors: &mut E,
     before: &str,
@@ -121,7 +127,7 @@ fn not_joined<'a, E: Write>(
             say_unjoined(errors, before, path, &why);
             NotJoined::Apart
         }
-        JoinFault::Books(why) => NotJoined::Refused(why),
+        JoinFault::Books(why) => NotJoined::Refused { path, why },
     }
 }
 
@@ -137,7 +143,10 @@ pub(crate) fn join_in<'a, D: Databases, K: Keeping, E: Write>(
     range: &DayRange,
     is_new: bool,
     errors: &mut E,
-) -> Result<JoinedOffice<K>, NotJoined<'a>> {
+) -> Result<JoinedOffice<K>, NotJoined<'a>>
+    ensures { IfOk result (JoinsPath K.Keeping D.Store.Store (D.opens databases.now) range.now
+        register.now path.now joined) }
+{
     match open_reporting(rt, databases, path, is_new, errors) {
         Ok(connection) => match join_stored(rt.alloc(), connection, joined, register, *range) {
             Ok(joined) => Ok(joined),
@@ -147,108 +156,109 @@ pub(crate) fn join_in<'a, D: Databases, K: Keeping, E: Write>(
     }
 }
 
-// Returns the data of all files for the report on an accounting register (a named counter), merged
-// from file to file. Reads the files in order, and opens one file at a time.
-fn join_all<'a, D: Databases, K: Keeping>(
+/// Adds the data of several files to a report, in order. `before` is the name of the file before
+/// the first of them. Opens one file at a time. If a file does not continue the earlier files,
+/// writes the reason to `errors`.
+pub(crate) fn join_paths<'a, D: Databases, K: Keeping, E: Write>(
     rt: &HostRuntime,
     databases: &D,
+    joined: Option<JoinedOffice<K>>,
+    before: &str,
     paths: &[&'a str],
     register: &Name,
     range: &DayRange,
-) -> Result<Option<JoinedOffice<K>>, Ending<'a>> {
-    let mut errors = Escaped::new(rt.stderr());
-    let mut joined = None;
-    let mut before = "";
-    for path in paths {
-        match join_in(
-            rt,
-            databases,
-            joined,
-            before,
-            *path,
-            register,
-            range,
-            false,
-            &mut errors,
+    errors: &mut E,
+) -> Result<Option<JoinedOffice<K>>, NotJoined<'a>> {
+    match paths {
+        [] => Ok(joined),
+        [path, rest @ ..] => match join_in(
+            rt, databases, joined, before, *path, register, range, false, errors,
         ) {
-            Ok(next) => joined = Some(next),
-            Err(why) => match why {
-                NotJoined::Failed(failure) => return Err(Ending::Failed(failure)),
-                NotJoined::Refused(why) => return Err(say_refused(rt, *path, why)),
-                NotJoined::Apart => return Err(Ending::Refused),
-            },
-        }
-        before = *path;
-    }
-    Ok(joined)
-}
-
-// Flushes the output of a command, and returns how the command ended.
-fn ended<W: Write + Drop>(output: &mut Buffered<W>, status: ExitStatus) -> Ending<'static> {
-    match output.flush() {
-        Ok(()) => ending_of(status),
-        Err(_) => Ending::Failed(Failure::Streams),
+            Ok(next) => join_paths(
+                rt,
+                databases,
+                Some(next),
+                *path,
+                rest,
+                register,
+                range,
+                errors,
+            ),
+            Err(why) => Err(why),
+        },
     }
 }
 
-// Prints the merged report on an accounting register (a named counter) over all files.
-fn print_report(rt: &HostRuntime, joined: JoinedFiles, form: &ReportForm) -> Ending<'static> {
-    let mut output = Buffered::new(io::writer(rt));
-    let status = report_joined(joined, form, &mut output);
-    ended(&mut output, status)
+// Reports why a file could not be added to a report over several files, and returns how the command
+// ends.
+fn end_unjoined<'a, W: Write>(rt: &HostRuntime, why: NotJoined<'a>, output: &mut W) -> Ending<'a> {
+    match why {
+        NotJoined::Failed(failure) => Ending::Failed(failure),
+        NotJoined::Refused { path, why } => say_refused(rt, path, why, output),
+        NotJoined::Apart => Ending::Refused,
+    }
 }
 
-// Prints the merged report on an accounting register (a named counter), if one of the files has
-// this register.
-fn report_recorded(
+// Prints the merged report on an accounting register (a named counter). If none of the files has
+// this register, prints a refusal.
+fn report_recorded<W: Write>(
     rt: &HostRuntime,
     path: &str,
     joined: Option<JoinedOffice<JoinedFiles>>,
     form: &ReportForm,
-) -> Ending<'static> {
+    output: &mut W,
+) -> Ending<'static>
+    ensures { ReportsOne W.Write joined form.now output.old output.new result }
+{
     match joined {
         Some(joined) => {
             if joined.kept.is_recorded {
-                print_report(rt, joined.kept, form)
+                ending_of(report_joined(joined.kept, form, output))
             } else {
-                say_refused(rt, path, Refusal::NotFound)
+                say_refused(rt, path, Refusal::NotFound, output)
             }
         }
-        None => say_refused(rt, path, Refusal::NotFound),
+        None => say_refused(rt, path, Refusal::NotFound, output),
     }
 }
 
-// Prints the merged statement of the meters at an accounting register (a named counter), over all
-// files. A statement lists meters, for checking a bill.
-fn print_statement(
-    rt: &HostRuntime,
+// Prints the merged statement (for checking a bill) of the meters that were installed at an
+// accounting register (a named energy counter), over all files.
+fn print_statement<W: Write>(
+    alloc: Global,
     joined: &JoinedStatement,
     form: &StatementForm,
-) -> Ending<'static> {
-    let mut output = Buffered::new(io::writer(rt));
-    match state_joined(rt.alloc(), joined, form, &mut output) {
-        Ok(status) => ended(&mut output, status),
+    output: &mut W,
+) -> Ending<'static>
+    ensures { StatesOne W.Write joined.now form.now output.old output.new result }
+{
+    match state_joined(alloc, joined, form, output) {
+        Ok(status) => ending_of(status),
         Err(_) => Ending::Failed(Failure::Memory),
     }
 }
 
-// Prints the merged statement (for checking a bill) of the meters at an accounting register (a
-// named counter), if one of the files has this register.
-fn state_recorded(
+// Prints the merged statement (for checking a bill) of the meters that were installed at an
+// accounting register (a named energy counter). If none of the files has this register, prints a
+// refusal.
+fn state_recorded<W: Write>(
     rt: &HostRuntime,
     path: &str,
     joined: Option<JoinedOffice<JoinedStatement>>,
     form: &StatementForm,
-) -> Ending<'static> {
+    output: &mut W,
+) -> Ending<'static>
+    ensures { StatesRecorded W.Write joined form.now output.old output.new result }
+{
     match joined {
         Some(joined) => {
             if joined.kept.is_recorded {
-                print_statement(rt, &joined.kept, form)
+                print_statement(rt.alloc(), &joined.kept, form, output)
             } else {
-                say_refused(rt, path, Refusal::NotFound)
+                say_refused(rt, path, Refusal::NotFound, output)
             }
         }
-        None => say_refused(rt, path, Refusal::NotFound),
+        None => say_refused(rt, path, Refusal::NotFound, output),
     }
 }
 
@@ -261,53 +271,101 @@ pub fn last_of<'a>(paths: &[&'a str]) -> &'a str {
 }
 
 // Prints the energy of an accounting register (a named counter) over several files.
-fn report_register<'a, D: Databases>(
+fn report_register<'a, D: Databases, W: Write>(
     rt: &HostRuntime,
     databases: &D,
     paths: &[&'a str],
     register: &Name,
     form: &ReportForm,
+    output: &mut W,
 ) -> Ending<'a> {
-    match join_all(rt, databases, paths, register, &form.range) {
-        Err(ending) => ending,
-        Ok(joined) => report_recorded(rt, last_of(paths), joined, form),
+    let mut errors = Escaped::new(rt.stderr());
+    match join_paths(
+        rt,
+        databases,
+        None,
+        "",
+        paths,
+        register,
+        &form.range,
+        &mut errors,
+    ) {
+        Ok(joined) => report_recorded(rt, last_of(paths), joined, form, output),
+        Err(why) => end_unjoined(rt, why, output),
     }
 }
 
-// Prints the statement (for checking a bill) of the meters at an accounting register (a named
-// counter) over several files.
-fn state_register<'a, D: Databases>(
+// Prints the statement (for checking a bill) of the meters that were installed at an accounting
+// register (a named energy counter), over several files.
+fn state_register<'a, D: Databases, W: Write>(
     rt: &HostRuntime,
     databases: &D,
     paths: &[&'a str],
     register: &Name,
     form: &StatementForm,
+    output: &mut W,
 ) -> Ending<'a> {
-    match join_all(rt, databases, paths, register, &form.range) {
-        Err(ending) => ending,
-        Ok(joined) => state_recorded(rt, last_of(paths), joined, form),
+    let mut errors = Escaped::new(rt.stderr());
+    match join_paths(
+        rt,
+        databases,
+        None,
+        "",
+        paths,
+        register,
+        &form.range,
+        &mut errors,
+    ) {
+        Ok(joined) => state_recorded(rt, last_of(paths), joined, form, output),
+        Err(why) => end_unjoined(rt, why, output),
     }
 }
 
-/// Prints the energy of an accounting register (a named counter of a device), or the statement of
-/// its meters. Merges several successive database files, the oldest first.
-pub fn report_files<'a, D: OfficeFiles>(
+// Prints the report or the statement that the options request, over several files.
+fn report_paths<'a, D: Databases, W: Write>(
     rt: &HostRuntime,
-    files: &D,
+    databases: &D,
     paths: &[&'a str],
     register: &str,
     words: &FormWords<'a>,
+    output: &mut W,
 ) -> Ending<'a> {
     let range = match range_of(words) {
         Ok(range) => range,
         Err(ending) => return ending,
     };
     let Some(name) = Name::new(register.as_bytes()) else {
-        return say_refused(rt, last_of(paths), Refusal::NotFound);
+        return say_refused(rt, last_of(paths), Refusal::NotFound, output);
     };
-    let readable = files.opened(Opening::ToRead);
     if words.statement {
-        return state_register(rt, &readable, paths, &name, &statement_of(words, range));
+        let form = statement_of(words, range);
+        state_register(rt, databases, paths, &name, &form, output)
+    } else {
+        report_register(rt, databases, paths, &name, &form_of(words, range), output)
     }
-    report_register(rt, &readable, paths, &name, &form_of(words, range))
+}
+
+// Flushes the output of a command that ended as `ending` says. If this fails, the command failed.
+fn flushed<'a, W: Write>(ending: Ending<'a>, output: &mut W) -> Ending<'a>
+    ensures { (result ≡ ending.entry) ⊎ (result ≡ Failed Streams) }
+{
+    match output.flush() {
+        Ok(()) => ending,
+        Err(_) => Ending::Failed(Failure::Streams),
+    }
+}
+
+/// Prints the energy of an accounting register (a named counter of a device), or the statement of
+/// its meters, and flushes the output. Merges several successive database files, the oldest first.
+pub fn report_files<'a, D: OfficeFiles, W: Write>(
+    rt: &HostRuntime,
+    files: &D,
+    paths: &[&'a str],
+    register: &str,
+    words: &FormWords<'a>,
+    output: &mut W,
+) -> Ending<'a> {
+    let readable = files.opened(Opening::ToRead);
+    let ending = report_paths(rt, &readable, paths, register, words, output);
+    flushed(ending, output)
 }

@@ -1,5 +1,5 @@
-//! The commands over database files that do not poll devices or serve HTTP. Also has the file
-//! operations of the command `run`.
+//! The commands that work on database files, but do not poll devices or serve HTTP. Also has the
+//! file operations of the command `run`.
 #![tactic(auto)]
 
 mod audits;

@@ -25,7 +25,7 @@ fn why_occupied<'a, D: Databases>(databases: &D, path: &'a str) -> Failure<'a> {
 }
 
 // Creates the tables of a new database in a file with a temporary name, and merges the file's log
-// into it.
+// into the file.
 fn fill_part<'a, D: Databases>(
     rt: &HostRuntime,
     databases: &D,

@@ -1,4 +1,6 @@
 //! Opens a database file, and reports a missing log or a large file.
+ghost use Rattle.std.specs.Prelude.{IfOk};
+
 use crate::escaped::Escaped;
 use sqlite::Connection;
 use std::io::{IsTerminal, Write};
@@ -38,7 +40,9 @@ pub fn open_in<'a, D: Databases>(
     rt: &HostRuntime,
     databases: &D,
     path: &'a str,
-) -> Result<Connection<D::Store>, Failure<'a>> {
+) -> Result<Connection<D::Store>, Failure<'a>>
+    ensures { IfOk result (D.opens databases.now path.now) }
+{
     let mut errors = Escaped::new(rt.stderr());
     open_reporting(rt, databases, path, false, &mut errors)
 }
@@ -51,7 +55,9 @@ pub(crate) fn open_reporting<'a, D: Databases, E: Write>(
     path: &'a str,
     is_new: bool,
     errors: &mut E,
-) -> Result<Connection<D::Store>, Failure<'a>> {
+) -> Result<Connection<D::Store>, Failure<'a>>
+    ensures { IfOk result (D.opens databases.now path.now) }
+{
     if let Err(fault) = check_regular(rt, path) {
         return Err(Failure::File { path, fault });
     }

@@ -10,8 +10,8 @@ use stored_files::{CopyFault, Databases, Failure, FileFault, real_path};
 /// memory and incomplete files.
 const RESERVED: [&'static str; 4] = ["-wal", "-journal", "-shm", ".part"];
 
-/// Returns whether a file or folder exists at a path. If the system cannot look up the path, it
-/// counts as existing.
+/// Returns whether a file or folder exists at a path. If the system cannot look up the path, the
+/// file counts as existing.
 pub fn is_there(rt: &HostRuntime, path: &str) -> bool {
     match fs::symlink_metadata(rt, path) {
         Ok(_) => true,
@@ -231,7 +231,8 @@ fn name_part(rt: &HostRuntime, to: &str, pair: &Pair) -> io::Result<()> {
 }
 
 /// Renames a complete file to its final name. The file's log must be merged. Fails if the final
-/// name already exists. May also fail after the renaming, like `link_name`.
+/// name already exists. May also fail after the renaming, for example if the folder cannot be
+/// synced.
 pub(crate) fn finish_part<'a>(
     rt: &HostRuntime,
     to: &'a str,

@@ -12,8 +12,8 @@ use stored_files::{
     write_recovered,
 };
 
-// Returns the paths of a database file and its log. Fails if the log has lost no commits, because
-// then nothing needs recovery.
+// Returns the paths of a database file and its log. Fails if the log is undamaged, because then
+// nothing needs recovery.
 fn damaged_pair<'a>(rt: &HostRuntime, db: &'a str) -> Result<Pair, Failure<'a>> {
     let pair = match pair_at(rt, db) {
         Ok(pair) => pair,
@@ -71,8 +71,8 @@ fn fill_part<'a>(
     }
 }
 
-// Audits the recovered database, and returns whether no difference was found. In that case, prints
-// a report on its records, otherwise the differences.
+// Audits the recovered database, and returns whether its rows follow the rules. If they do, prints
+// a report on the records, otherwise the discrepancies.
 fn report_over<D: Databases>(
     rt: &HostRuntime,
     mut connection: Connection<D::Store>,
@@ -90,8 +90,8 @@ fn report_over<D: Databases>(
     Ok(true)
 }
 
-// Audits the recovered file and prints a report. If the audit finds no difference, renames the file
-// to its final name.
+// Audits the recovered file and prints a report. If the audit finds no discrepancy, renames the
+// file to its final name.
 fn finish<'a, D: OfficeFiles>(
     rt: &HostRuntime,
     files: &D,

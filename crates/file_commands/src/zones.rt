@@ -3,7 +3,7 @@
 use interval_core::Zone;
 use std::{fs, io};
 
-/// The folder of the zone files. The path of a zone's file below it is the zone's name.
+/// The folder of the zone files. The path of a zone's file below this folder is the zone's name.
 const FOLDER: &str = "/usr/share/zoneinfo";
 
 /// The first bytes of each zone file (RFC 9636, section 3.1).

@@ -51,8 +51,8 @@ static KINDS: [(CommandKind, &[u8]); 11] = [
     (CommandKind::Start, b"{\"done\":\"start\"}"),
 ];
 
-// Checks that the body of an HTTP response states the kind of the command, whether the command was
-// executed now or by an earlier request.
+// Checks that the body of an HTTP response states the kind of the command. It does not matter
+// whether the command was executed now or by an earlier request.
 #[test]
 fn each_kind_of_command_has_a_body(rt: HostRuntime) {
     for (kind, body) in &KINDS {

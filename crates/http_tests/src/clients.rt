@@ -149,8 +149,9 @@ struct Client {
     energy: Option<u64>,
 }
 
-// Returns whether the port serves a client as expected. The port must report a reached limit for
-// stored commands once, and missing database files after a command.
+// Returns whether the port serves a client as expected. If the limit for stored commands was
+// reached, the port must report this exactly once. If the database files are missing after a
+// command, the port must report this too.
 fn serves(
     rt: &HostRuntime,
     listener: TcpListener,
@@ -311,7 +312,7 @@ fn written(rt: &HostRuntime, outbox: &mut Outbox) -> Result<Vec<u8>, Fail> {
     read_all(rt.alloc(), listener.accept()?.0)
 }
 
-// The bytes in an output buffer are written once. After that, the buffer has room for other bytes.
+// The bytes in an output buffer are written once. Bytes that are added later replace them.
 #[test]
 fn bytes_that_are_put_are_written_once(rt: HostRuntime) -> Result<(), Fail> {
     let mut empty = Outbox::empty(rt.alloc());

@@ -27,8 +27,8 @@ pub(crate) const REQUEST: &[u8] =
 const REPLY: &[u8] =
     b"HTTP/1.1 200 OK\r\nContent-Type: application/json\r\nContent-Length: 19\r\nConnection: close\r\n\r\n{\"done\":\"exchange\"}";
 
-// Three HTTP clients. The second client repeats the request of the first. The third client sends
-// another last count of the meter under the same idempotency key.
+// Three HTTP clients. The second client repeats the request of the first. The third client sends a
+// different last count of the meter under the same idempotency key.
 static ASKING: [Client; 3] = [
     Client {
         bytes: REQUEST,

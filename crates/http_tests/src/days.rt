@@ -67,8 +67,8 @@ static MISSPELLED: [&str; 12] = [
     "-000001-01-01",
 ];
 
-// A day from the year 0 to 9999 is parsed from an ISO 8601 date. A range without a first day and an
-// end contains every day.
+// A day from the year 0 to 9999 is parsed from an ISO 8601 date. A range without a first day and
+// without an end contains every day.
 #[test]
 fn days_are_spelled(rt: HostRuntime) {
     for (text, year, month, number) in &SPELLED {

@@ -24,8 +24,9 @@ impl NamedFiles for NoFiles {
     }
 }
 
-// Checks that an input line is refused if the database fails. This also applies while an entry's
-// energy is compared with the meter's ceiling (greatest power): the user is not asked to confirm.
+// Checks that an input line is refused if the database fails. This includes a failing call that
+// compares the energy with the meter's ceiling (greatest power): the user is then not asked to
+// confirm.
 #[test]
 fn a_line_over_a_failing_store_is_refused(rt: HostRuntime) {
     for failing in 1..12 {

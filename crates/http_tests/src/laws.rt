@@ -4,8 +4,8 @@ use crate::failing_commands::NoFiles;
 use office_program::{MOST_FILE, inputs_act_once, requests_are_repeated};
 use run_http::{chunks_form_response, entries_come_after, rows_before_stay, text_stays};
 
-// Calls the theorems on copies of a meter's rows, chunks of responses, retried requests and entered
-// inputs.
+// Calls the theorems about copies of a meter's rows, chunks of responses, retried requests and
+// entered inputs.
 #[test]
 fn theorems_are_called(rt: HostRuntime) {
     rows_before_stay();

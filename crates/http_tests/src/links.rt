@@ -60,8 +60,8 @@ fn a_request_may_end_or_fail_anywhere(rt: HostRuntime) {
 static JSON: &[u8] =
     b"HTTP/1.1 404 Not Found\r\nContent-Type: application/json\r\nContent-Length: 13\r\nConnection: close\r\n\r\n{\"refused\":1}";
 
-// Any write of a response may fail. The bytes that were written before the failure are a prefix of
-// the response.
+// Whichever write of a response fails, the bytes that were written before it are a prefix of the
+// response.
 #[test]
 fn each_write_of_a_reply_may_fail(rt: HostRuntime) {
     for call in 1..12u64 {

@@ -1,6 +1,6 @@
 //! `Office` values (the core of `sunreg`) over databases in memory, for tests. The device is `inv`,
-//! the device's accounting register (a named counter) is `main`, and the meter at this register is
-//! `m1`.
+//! the device's accounting register (a named counter) is `main`, and the meter that is installed at
+//! this register is `m1`.
 use crate::cases::serve;
 use carried_books::EarlierRegister;
 use interval_core::Zone;

@@ -39,7 +39,7 @@ fn is_reported(fault: HandleFault, given: &[u8], reply: &[u8]) -> bool {
     }
 }
 
-// Makes each call of the connection fail in turn, until serving the HTTP request takes fewer calls.
+// Makes each call to the connection fail in turn, until serving the HTTP request takes fewer calls.
 // A retry of an executed command gets the stored response.
 fn fail_each<B: Books>(rt: &impl Abort, alloc: Global, office: &mut Office<B>, case: &Case<'_>) {
     let want = reply(alloc, case.status, case.body).expect(rt, "no memory");
@@ -60,8 +60,8 @@ fn fail_each<B: Books>(rt: &impl Abort, alloc: Global, office: &mut Office<B>, c
     panic!(rt; "it fails each time")
 }
 
-// A request may arrive in chunks of any size, or end at any byte. A retry gets the same response as
-// the first request.
+// A request may arrive in chunks of any size, or be cut off at any byte. A retry gets the same
+// response as the first request.
 #[test]
 fn requests_come_in_chunks_or_are_cut_off(rt: HostRuntime) {
     let mut office = polled(&rt, rt.alloc());
@@ -73,7 +73,7 @@ fn requests_come_in_chunks_or_are_cut_off(rt: HostRuntime) {
     }
 }
 
-// Checks that a command is executed only once, whichever call of the connection fails.
+// Checks that a command is executed only once, whichever call to the connection fails.
 #[test]
 fn each_call_of_the_link_may_fail(rt: HostRuntime) {
     let tables: [&[Case<'static>]; 2] = [&QUESTIONS, &COMMANDS];

@@ -13,7 +13,7 @@ use run_http::{
 use std::alloc::Global;
 use std::process::Abort;
 
-// Returns the meter `m1`, which was read at times 1000 s and 1900 s.
+// Returns the meter `m1`, which was installed at time 1000 s and read at 1900 s.
 fn meter<B: Books>(rt: &impl Abort, office: &mut Office<B>) -> Installation {
     match office.meter(&Name::new(b"m1")) {
         Ok(it) => it,
@@ -21,8 +21,8 @@ fn meter<B: Books>(rt: &impl Abort, office: &mut Office<B>) -> Installation {
     }
 }
 
-// Writes the head of an HTTP response with a meter's quarter hours in a time span, or all. Returns
-// the quarter hours that remain to be written.
+// Writes the head of an HTTP response with a meter's quarter hours: those in a time span, or all if
+// `span` is `None`. Returns the quarter hours that remain to be written.
 fn begun<B: Books>(
     rt: &impl Abort,
     alloc: Global,
@@ -170,8 +170,8 @@ static VOIDS: [(&[u8], bool); 6] = [
     (b"", false),
 ];
 
-// Checks that the request line identifies requests for all quarter hours of a meter, and requests
-// that may void (cancel) an entry.
+// Checks which requests are recognized as requests for all quarter hours of a meter, and which as
+// requests that may void (cancel) an entry.
 #[test]
 fn requests_are_recognized(rt: HostRuntime) {
     let router = router(rt.alloc()).expect(&rt, "no router");

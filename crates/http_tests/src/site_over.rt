@@ -12,8 +12,9 @@ use std::process::Abort;
 // A meter in earlier database files: its name, its energy in mWh, and whether it was closed.
 type Earlier = (&'static [u8], u64, bool);
 
-// A test case: its description, an accounting register (a named counter) of earlier database files,
-// the meters at that register, and the meter's JSON in the response.
+// A test case: its description, and an accounting register (a named counter) of earlier database
+// files. Then the meters that were installed at that register, and the meter's JSON in the
+// response.
 type Case = (
     &'static str,
     &'static [u8],
@@ -132,8 +133,8 @@ fn assert_sites<B: Books>(rt: &impl Abort, alloc: Global, office: &mut Office<B>
     }
 }
 
-// Checks that `/site` reports the meter at an accounting register (a named counter) as the last
-// meter of all files, with the energy in all files.
+// Checks that `/site` reports the last meter that was installed at an accounting register (a named
+// counter), with this meter's energy in all files.
 #[test]
 fn a_site_has_the_meters_of_all_files(rt: HostRuntime) {
     let mut office = polled(&rt, rt.alloc());

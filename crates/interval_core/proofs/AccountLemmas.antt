@@ -20,12 +20,12 @@ use Rattle.interval_core.proofs.OrderLemmas.{Earlier, Later, All-split, in_order
 use Rattle.interval_core.proofs.PlaceLemmas.{Other, same_day, other_day, absent, not_contained}
 use Rattle.interval_core.proofs.CountLemmas.{among, rows_on-same, rows_on-other, distinct_count-push, present, missing, energy-rows_on}
 
--- A day account (the energy of a civil day) is exact: it has the number of intervals and the energy
--- of all rows of the day.
+-- True if a day account (the energy of a civil day) is exact: it has the number of intervals and
+-- the energy of all rows of the day.
 abbrev pub IsExact : Zone → List Share → DayAccount → Type 0
 IsExact zone rows account = account ≡ account_on zone rows account.day
 
--- True if a row of the same day already has the start `start`, so that the day's account already
+-- True if a row of the same day already has the given start, so that the day's account already
 -- counts this interval.
 abbrev pub is_known : Zone → List Share → ℕ → Bool
 is_known zone rows start = among start (starts_of (rows_on zone rows (day_at zone start)))
@@ -105,8 +105,8 @@ earlier-other day accounts earlier = λ k d lt same. let before = earlier k d lt
 later-other : (day : ℤ) (accounts : List DayAccount) → All (Later day) accounts → All (Other day) accounts
 later-other day accounts later = λ k d lt same. let after = later k d lt in omega (arith, signed_arith, after, same)
 
--- Adding an interval row to a day that has a day account (its energy) replaces this account by that
--- of all rows of the day.
+-- If a day has a day account (the energy of the day), adding an interval row replaces this account.
+-- The new account has the energy of all rows of the day.
 pub replaced : (zone : Zone) (rows : List Share) (row : Share) (before : List DayAccount) (a b : DayAccount) (after : List DayAccount)
     → AreAccounts zone rows (before ++ a ∷ after) → a.day ≡ day_at zone row.start → b ≡ account_on zone (rows ++ row ∷ []) (day_at zone row.start)
     → AreAccounts zone (rows ++ row ∷ []) (before ++ b ∷ after)

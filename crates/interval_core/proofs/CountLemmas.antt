@@ -15,7 +15,7 @@ use Rattle.interval_core.specs.Account.{starts_of, energy_of}
 use Rattle.interval_core.specs.Zone.{day_at}
 use Rattle.interval_core.specs.Days.{rows_on, distinct_count}
 
--- True if a start is in a list of starts.
+-- True if a list of start times of quarter hours contains the given start time.
 abbrev pub among : ℕ → List ℕ → Bool
 among start starts = list_any (λ n. n == start) starts
 
@@ -76,7 +76,8 @@ distinct_count-push (n ∷ starts) m =
           (count-other (among n starts) (among m starts) (distinct_count starts))
     ]
 
--- The start of a row is among the starts of the rows of its civil day.
+-- If a start is among the starts of all rows, it is also among the starts of the rows of its civil
+-- day.
 pub present : (zone : Zone) (rows : List Share) (start : ℕ) → Contains (starts_of rows) start → among start (starts_of (rows_on zone rows (day_at zone start))) ≡ true
 present zone [] start contains = absurd (omega (arith, contains.1))
 present zone (row ∷ rows) start contains =

@@ -8,7 +8,7 @@ use Rattle.interval_core.specs.Account.{Touches}
 use Rattle.interval_core.specs.Fold.{IsSoundFold}
 
 -- A step (the energy between two readings) that ends with its 3,000th quarter hour touches 3,000
--- quarter hours. One second more makes 3,001.
+-- quarter hours. A step that is one second longer touches 3,001.
 longest_step : intervals_touched 0 2700000 ≡ 3000
 longest_step = refl
 
@@ -26,7 +26,7 @@ last_second = (refl, omega arith, omega arith)
 first_second_of_the_next : Touches (record { from = 900; till = 901; mwh = 1 }) 0 → ⊥
 first_second_of_the_next touches = omega (arith, touches.2)
 
--- The latest row that a `DayFold` adds up may begin up to the beginning of 2100.
+-- The latest row that a `DayFold` adds up may begin at the beginning of 2100, but not later.
 last_moment : IsSoundFold [] (Some 4102444800)
 last_moment = record { in_order = tt; counts = λ k d lt. absurd (omega (arith, lt)); moments = lit≤ tt }
 

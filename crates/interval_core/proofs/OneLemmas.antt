@@ -21,8 +21,8 @@ by_order : {P : Type 0} (x y : ℤ) → (x <ℤ y → P) → (x ≡ y → P) →
 by_order {P} x y less equal greater =
     elim (int_cmp x y) as (λ r. MatchOrdering r (x <ℤ y) (x ≡ y) (y <ℤ x) → P) [ Less ↦ less | Equal ↦ equal | Greater ↦ greater ] (int_ranks x y)
 
--- States that a list of day accounts (energies of civil days) has an account of the day `day`, and
--- accounts before and after it.
+-- States that a list of day accounts (energies of civil days) contains an account of the day `day`.
+-- The fields are this account and the parts of the list before and after it.
 
 record Among (day : ℤ) (accounts : List DayAccount) : Type 0 where
   pub before : List DayAccount
@@ -87,7 +87,7 @@ more zone done (row ∷ rows) so_far =
 pub exists_for : (zone : Zone) (rows : List Share) → (accounts : List DayAccount) × AreAccounts zone rows accounts
 exists_for zone rows = more zone [] rows ([], (taken-none zone).accounts)
 
--- The list of days contains the day of the first account.
+-- The days of a list of day accounts include the day of its first account.
 
 first-contained : (a : DayAccount) (accounts : List DayAccount) → Contains (days_of (a ∷ accounts)) a.day
 first-contained a accounts = (0, omega arith, refl)

@@ -8,7 +8,7 @@ use Rattle.jiff.proofs.SpanFacts.{signed_arith}
 use Rattle.std.proofs.lemmas.List.Elements.{All-nil, All-cons, All-head, All-tail, All-append, All-get_or}
 use Rattle.interval_core.specs.Days.{DayAccount, AreInOrder}
 
--- True if the day account (the energy of a civil day) is of a day before `day`.
+-- True if the day account (the energy of a civil day) is of a day before the given day.
 abbrev pub Earlier : ℤ → DayAccount → Type 0
 Earlier day account = account.day <ℤ day
 

@@ -18,7 +18,7 @@ use Rattle.interval_core.proofs.OrderLemmas.{Earlier, Later}
 abbrev pub NotEarlier : ℤ → DayAccount → Type 0
 NotEarlier day account = day ≤ℤ account.day
 
--- True if the day account (the energy of a civil day) is of a day other than `day`.
+-- True if the day account (the energy of a civil day) is of a day other than the given day.
 abbrev pub Other : ℤ → DayAccount → Type 0
 Other day account = account.day ≢ day
 
@@ -40,8 +40,8 @@ in_order-drop zero accounts order = order
 in_order-drop (suc n) [] order = tt
 in_order-drop (suc n) (a ∷ accounts) order = in_order-drop n accounts order.1
 
--- Suppose that the day account (the energy of a civil day) at a day's index is of another day. Then
--- this account and all following accounts are of later days.
+-- Suppose that a day has no day account (the energy of a civil day) at the index where it belongs
+-- in an ordered list. Then the accounts from this index on are of later days.
 pub later-from : (day : ℤ) (accounts : List DayAccount) (n : ℕ) (d : DayAccount) → AreInOrder accounts → n ≤ length accounts → All (NotEarlier day) (drop n accounts)
     → (n < length accounts → (get_or accounts n d).day ≢ day) → All (Later day) (drop n accounts)
 later-from day accounts n d order within others other =
@@ -61,8 +61,9 @@ later-from day accounts n d order within others other =
           rw none (All-nil (Later day))
     ]
 
--- Replacing a day account by an account of the same day, with more intervals and energy, produces
--- the list that `Grows` describes.
+-- Replacing a day account (the energy of a civil day) by one of the same day changes only this
+-- account of the list. The new account has `count` more intervals and `mwh` more energy, but at
+-- most 2^128 - 1 mWh.
 pub grows : (day : ℤ) (count mwh : ℕ) (totals : List DayTotal) (n : ℕ) (t u : DayTotal) → HoldsDay day (map account_of totals) n → t ≡ get_or totals n t
     → epoch_day u.day ≡ day → u.count ≡ t.count + count → u.mwh ≡ min (t.mwh + mwh) (2 ^ 128 - 1)
     → Grows day count mwh (map account_of totals) (map account_of (set totals n u))
@@ -84,8 +85,8 @@ grows day count mwh totals n t u holds is there counted added =
           ∙ ap (λ (a : DayAccount). take n accounts ++ a ∷ drop (suc n) accounts) new;
     }
 
--- Inserting a day account for a day without one produces the list of day accounts that `Begins`
--- describes.
+-- Inserting a day account (the energy of a civil day) for a day without one adds only this account
+-- to the list.
 pub begins : (day : ℤ) (mwh : ℕ) (totals : List DayTotal) (n : ℕ) (u : DayTotal) → IsGap day (map account_of totals) n
     → epoch_day u.day ≡ day → u.count ≡ 1 → u.mwh ≡ mwh → Begins day mwh (map account_of totals) (map account_of (insert totals n u))
 begins day mwh totals n u gap there counted added =

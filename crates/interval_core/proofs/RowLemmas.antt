@@ -13,13 +13,13 @@ use Rattle.interval_core.specs.Account.{Touches, IsAscending, IsAccount, starts_
 use Rattle.interval_core.proofs.ShareLemmas.{running_mono}
 use Rattle.interval_core.proofs.SumLemmas.{running-from, running-till}
 
--- True if a time is the start of a quarter-hour interval, at or after `bound`.
+-- True if a time is the start of a quarter-hour interval, at or after a bound.
 
 abbrev IsStartFrom : ℕ → ℕ → Type 0
 IsStartFrom bound start = (bound ≤ start) × (start % 900 ≡ 0)
 
--- The start of the first quarter hour at or after `bound` that the step (the energy between two
--- readings) touches. The step must end after this start.
+-- The start of the first quarter hour that starts at or after a bound, and ends after the step (the
+-- energy between two readings) begins.
 abbrev first_from : Step → ℕ → ℕ
 first_from step bound = max bound (step.from / 900 * 900)
 
@@ -47,7 +47,7 @@ in_rest x xs t lt contains =
       | inr there ↦ there
     ]
 
--- The shares of a step in the intervals that start from `bound` on add up to the step's energy
+-- The shares of a step in the intervals that start at or after `bound` add up to the step's energy
 -- after `bound`. A share is the energy in one quarter hour.
 energy-from : (step : Step) (xs : List ℕ) (bound : ℕ) → step.from < step.till → bound % 900 ≡ 0 → IsAscending xs → All (IsStartFrom bound) xs
     → ((t : ℕ) → bound ≤ t → Touches step t → Contains xs t)

@@ -9,8 +9,8 @@ use Rattle.interval_core.specs.Days.{distinct_count}
 over_three : shares_of (record { from = 800; till = 2000; mwh = 1000 }) ≡ record { start = 0; mwh = 83 } ∷ record { start = 900; mwh = 750 } ∷ record { start = 1800; mwh = 167 } ∷ []
 over_three = refl
 
--- A step (the energy between two readings) of 200 Wh touches two quarter hours. It is from 100
--- seconds after the start of the first to 100 seconds after its end.
+-- A step (the energy between two readings) of 200 Wh touches two quarter hours. The step is from
+-- 100 seconds after the start of the first to 100 seconds after its end.
 over_two : shares_of (record { from = 1000; till = 1900; mwh = 200000 }) ≡ record { start = 900; mwh = 177777 } ∷ record { start = 1800; mwh = 22223 } ∷ []
 over_two = refl
 

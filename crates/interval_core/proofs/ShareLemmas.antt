@@ -17,7 +17,7 @@ running-split each rest seconds passed some =
 pub div_mono : (a b n : ℕ) → 0 < n → a ≤ b → a / n ≤ b / n
 div_mono a b n some le = le-div (a / n) b n some (omega (arith, div-mul-le_self a n))
 
--- The energy of a step (between two readings) up to a time never falls over time.
+-- The energy of a step (between two readings) up to a time never decreases as the time increases.
 pub running_mono : (step : Step) (a b : ℕ) → step.from < step.till → a ≤ b → running_energy step a ≤ running_energy step b
 running_mono step a b forward le =
     let order : a - step.from ≤ b - step.from = omega arith in

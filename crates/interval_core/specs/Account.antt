@@ -6,8 +6,8 @@ use Rattle.energy_core.specs.declared.limits.TheConstants.{INTERVAL_SECONDS}
 use Rattle.interval_core.specs.declared.shares.Share.{Share}
 use Rattle.interval_core.specs.Share.{share_at, shares_of}
 
--- States that a step (the energy between two readings) touches the quarter hour from `start`: the
--- two have a second in common.
+-- States that a step (the energy between two readings) touches the quarter hour with this start:
+-- the two have a second in common.
 abbrev pub Touches : Step → ℕ → Type 0
 Touches step start = (start % INTERVAL_SECONDS ≡ 0) × (start < step.till)
     × (step.from < start + INTERVAL_SECONDS)
@@ -36,8 +36,8 @@ pub record IsSpread (step : Step) (shares : List Share) : Type 0 where
       → share_at step start ≡ 0
   pub whole : energy_of shares ≡ step.mwh
 
--- Theorem: `shares_of` divides the energy of every step (between two readings) into quarter hours
--- as `IsSpread` describes.
+-- Theorem: the division of a step's energy (between two readings) into quarter hours is exact. The
+-- shares are in order and add up to the step's energy.
 abbrev pub SharesAddUp : Type 0
 SharesAddUp = (step : Step) → step.from < step.till → IsSpread step (shares_of step)
 
@@ -49,8 +49,8 @@ pub record IsAccount (steps : List Step) (rows : List Share) : Type 0 where
       → Contains (starts_of rows) start ↔ Any (λ step. Touches step start) steps
   pub each : All (λ row. row.mwh ≡ sum_by (λ step. share_at step row.start) steps) rows
 
--- Theorem: interval rows that are the sums of the steps' energies in each quarter hour
--- (`IsAccount`) have the same total energy as the steps.
+-- Theorem: interval rows that are the sums of the steps' energies in each quarter hour have the
+-- same total energy as the steps.
 abbrev pub AccountsAddUp : Type 0
 AccountsAddUp = (steps : List Step) (rows : List Share) → All (λ step. step.from < step.till) steps
     → IsAccount steps rows

@@ -13,7 +13,7 @@ use Rattle.interval_core.specs.Account.{starts_of, energy_of}
 use Rattle.interval_core.specs.Zone.{day_at}
 
 -- The energy of a civil day, in mWh, with the number of its quarter hours that have a row. The day
--- is counted from 1970-01-01.
+-- is given as the number of days since 1970-01-01.
 pub record DayAccount : Type 0 where
   pub day : ℤ
   pub count : ℕ
@@ -52,15 +52,15 @@ AreInOrder [] = Unit {0}
 AreInOrder (account ∷ accounts) =
     All (λ later. account.day <ℤ later.day) accounts × AreInOrder accounts
 
--- States that `accounts` is in order and has one day account (its energy) for each civil day with a
--- row. A row belongs to the day on which its quarter hour begins.
+-- States that `accounts` is in order and has one day account (the energy of the day) for each civil
+-- day with a row. A row belongs to the day on which its quarter hour begins.
 pub record AreAccounts (zone : Zone) (rows : List Share) (accounts : List DayAccount) : Type 0 where
   pub in_order : AreInOrder accounts
   pub complete : (day : ℤ) → Contains (days_of accounts) day ↔ (0 < length (rows_on zone rows day))
   pub each : All (λ account. account ≡ account_on zone rows account.day) accounts
 
 -- Theorem: for any time zone and interval rows, exactly one list of day accounts (energies of civil
--- days) exists.
+-- days) satisfies `AreAccounts`.
 abbrev pub AccountsAreOne : Type 0
 AccountsAreOne = (zone : Zone) (rows : List Share)
     → (accounts : List DayAccount) × AreAccounts zone rows accounts

@@ -19,7 +19,7 @@ pub record FoldState : Type 0 where
 abbrev pub no_rows : FoldState
 no_rows = record { accounts = []; latest = None }
 
--- True if `latest` is the latest start of a list of interval rows, or `None` if the list is empty.
+-- True if a start is the latest start of a list of interval rows, or `None` if the list is empty.
 abbrev pub IsLatest : List Share → Option ℕ → Type 0
 IsLatest rows latest =
     MatchOption latest (rows ≡ [])
@@ -31,8 +31,9 @@ pub record HasTaken (zone : Zone) (rows : List Share) (fold : FoldState) : Type 
   pub accounts : AreAccounts zone rows fold.accounts
   pub latest : IsLatest rows fold.latest
 
--- The contract of `push`: if it succeeds, it adds a row to the rows that the `DayFold` added up
--- before. The energy of all rows must be less than 2^128 mWh.
+-- The contract of adding a row to a `DayFold` (energy by civil day). On success, the `DayFold` has
+-- added up its earlier rows and this row. Nothing is stated if the energy of all rows is 2^128 mWh
+-- or more.
 abbrev pub TakesRow : Zone → Share → (old : FoldState) → Result (Unit {0}) DayFault
     → (new : FoldState) → Type 0
 TakesRow zone row old answer new = (rows : List Share) → HasTaken zone rows old
@@ -58,21 +59,22 @@ pub record IsPlace (day : ℤ) (accounts : List DayAccount) (place : ℕ) : Type
   pub earlier : All (λ account. account.day <ℤ day) (take place accounts)
   pub others : All (λ account. day ≤ℤ account.day) (drop place accounts)
 
--- True if the day account (the energy of a civil day) at the index `place` of a list is that of a
+-- True if the day account (the energy of a civil day) at the given index of a list is that of a
 -- given day.
 abbrev pub HoldsDay : ℤ → List DayAccount → ℕ → Type 0
 HoldsDay day accounts place =
     (place < length accounts) × HoldsAt (λ account. account.day ≡ day) accounts place
 
--- States that a day has no day account (its energy) in a list. Accounts before the index `place`
--- are of earlier days, and the other accounts are of later days.
+-- States that a list has no day account (the energy of a day) for a day. Accounts before the index
+-- `place` are of earlier days, and the other accounts are of later days.
 pub record IsGap (day : ℤ) (accounts : List DayAccount) (place : ℕ) : Type 0 where
   pub within : place ≤ length accounts
   pub earlier : All (λ account. account.day <ℤ day) (take place accounts)
   pub later : All (λ account. day <ℤ account.day) (drop place accounts)
 
--- States that the lists `old` and `new` differ in one day's account (its energy), which grows by
--- `count` quarter hours and `mwh` of energy. The energy saturates at 2^128 - 1 mWh.
+-- States that the lists `old` and `new` differ only in the day account (the energy of a day) of
+-- `day`. The account grows by `count` quarter hours and `mwh` of energy. The energy saturates at
+-- 2^128 - 1 mWh.
 pub record Grows (day : ℤ) (count mwh : ℕ) (old new : List DayAccount) : Type 0 where
   pub before : List DayAccount
   pub after : List DayAccount
@@ -86,8 +88,8 @@ pub record Grows (day : ℤ) (count mwh : ℕ) (old new : List DayAccount) : Typ
         mwh = min (had_mwh + mwh) (2 ^ 128 - 1);
       } ∷ after
 
--- States that a day has no day account (its energy) in the list `old`, and has an account in the
--- list `new`.
+-- States that the list `new` is `old` with one more day account (the energy of a day), for a day
+-- without an account in `old`. The new account has one quarter hour, and `mwh` of energy.
 pub record Begins (day : ℤ) (mwh : ℕ) (old new : List DayAccount) : Type 0 where
   pub before : List DayAccount
   pub after : List DayAccount
@@ -96,8 +98,9 @@ pub record Begins (day : ℤ) (mwh : ℕ) (old new : List DayAccount) : Type 0 w
   pub old_is : old ≡ before ++ after
   pub new_is : new ≡ before ++ record { day = day; count = 1; mwh = mwh } ∷ after
 
--- True if `mwh` of energy was added to the day account of a day, or began this day account. If
--- `is_new`, an existing day account counts another quarter hour.
+-- True if an energy in mWh was added to the day account of a day, or a new day account with this
+-- energy was inserted. If the Boolean is true, an existing day account also counts one more quarter
+-- hour.
 abbrev pub IsAdded : ℤ → Bool → ℕ → List DayAccount → List DayAccount → Type 0
 IsAdded day is_new mwh old new =
     Grows day (if is_new then 1 else 0) mwh old new ⊎ Begins day mwh old new

@@ -58,6 +58,6 @@ abbrev pub has_day : DayRange → ℤ → Bool
 has_day range day = begins_by_number range.from day && ends_after_number range.till day
 
 -- True if the civil day of a timestamp in the time zone is in the range of days. A timestamp after
--- `LAST_MOMENT` has no day, and is in no range.
+-- `LAST_MOMENT` (the beginning of 2100) has no day, and is in no range.
 abbrev pub has_moment : Zone → DayRange → (moment : ℕ) → Bool
 has_moment zone range moment = nat_le moment LAST_MOMENT && has_day range (day_at zone moment)

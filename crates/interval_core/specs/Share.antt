@@ -12,15 +12,15 @@ use Rattle.interval_core.specs.declared.shares.Share.{Share}
 abbrev pub running_energy : Step → ℕ → ℕ
 running_energy step moment = step.mwh * (moment - step.from) / (step.till - step.from)
 
--- The energy of a step (between two readings) in the quarter hour from `start`: the energy up to
--- the quarter hour's end less the energy up to `start`.
+-- The energy of a step (between two readings) in the quarter hour with this start: the energy up to
+-- the quarter hour's end less the energy up to its start.
 abbrev pub share_at : Step → ℕ → ℕ
 share_at step start =
     running_energy step (min (start + INTERVAL_SECONDS) step.till)
     - running_energy step (max start step.from)
 
--- The share of a step (the energy between two readings) in the quarter hour with a number: the
--- quarter hour's start and the step's energy in it.
+-- The share of a step (the energy between two readings) in the quarter hour `interval`: the quarter
+-- hour's start and the step's energy in it.
 abbrev pub share_of : Step → ℕ → Share
 share_of step interval = let start = interval * INTERVAL_SECONDS in
     record { start = start; mwh = share_at step start }

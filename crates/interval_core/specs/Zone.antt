@@ -16,8 +16,8 @@ rule_of zone = zone.rule
 abbrev pub HasRule : List ℕ → Zone → Type 0
 HasRule text zone = IsPosixZone text (plain_zone (rule_of zone))
 
--- States that a text describes a time zone: `jiff` parses it as a POSIX rule, and it has at most
--- `MAX_ZONE_TEXT` bytes.
+-- States that a text describes a time zone: `jiff` parses it as a POSIX rule, and it has at most 64
+-- bytes (`MAX_ZONE_TEXT`).
 abbrev pub IsZoneText : List ℕ → Type 0
 IsZoneText text = IsSome (read_whole text) × (length text ≤ MAX_ZONE_TEXT)
 

@@ -84,7 +84,7 @@ unfolding maps answer_to_frame sent_next course_next trick_at frames frames_in
 the_first_trick = refl
 
 -- The injected fault `Id` changes the greatest transaction identifier to 0, and the fault `Unit`
--- the greatest unit identifier.
+-- changes the greatest unit identifier to 0.
 the_last_id : sent_to (on_first play.Id) maps (own_frames (255 ∷ 255 ∷ 0 ∷ 0 ∷ 0 ∷ 6 ∷ 1 ∷ 3 ∷ 0 ∷ 0 ∷ 0 ∷ 1 ∷ [])) ≡ 0 ∷ 0 ∷ 0 ∷ 0 ∷ 0 ∷ 5 ∷ 1 ∷ 3 ∷ 2 ∷ 0 ∷ 9 ∷ []
 unfolding maps answer_to_frame sent_next course_next trick_at frames frames_in
 the_last_id = refl

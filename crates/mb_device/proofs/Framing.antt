@@ -63,8 +63,8 @@ bad_alone b left bad =
     let alone = rest_alone (b ++ left) (inr still) in
     (ap (filter is_own) alone.0, subst IsBad (sym alone.1) still)
 
--- When the reader of frames stops consuming bytes, it holds the Modbus frame that these bytes
--- complete, if any.
+-- When the reader of frames stops consuming bytes, it holds the Modbus frame that the consumed
+-- bytes complete, if they complete one.
 reported_frames : (what : Framing) (b : List ℕ) → ReportsFraming what b → (own_frames b ≡ buffered_frames (buffered_after what b).frame) × (rest b ≡ (buffered_after what b).rest)
 reported_frames Need b reports = open_alone b reports
 reported_frames Whole b reports =
@@ -75,8 +75,8 @@ reported_frames Foreign b reports =
     (ap (filter is_own) alone.0 ∙ cond-false _ _ _ (ne_eqb _ _ reports.1), alone.1)
 reported_frames Garbled b reports = let alone = rest_alone b (inr reports.0) in (ap (filter is_own) alone.0, alone.1)
 
--- If the reader of frames consumed a part of a chunk, the chunk's remaining frames are those of the
--- bytes not consumed.
+-- Suppose that the reader of frames consumed a part of a chunk. Then the chunk's Modbus frames are
+-- the frame in the reader, if any, followed by those of the bytes not consumed.
 pub piece_frames : (what : Framing) (r piece : List ℕ) (taken : ℕ) (buffered : Buffered) → ReportsFraming what (r ++ take taken piece) → buffered ≡ buffered_after what (r ++ take taken piece)
     → (own_frames (r ++ piece) ≡ buffered_frames buffered.frame ++ own_frames (buffered.rest ++ from taken piece)) × (rest (r ++ piece) ≡ rest (buffered.rest ++ from taken piece))
 piece_frames what r piece taken buffered reports is =

@@ -65,7 +65,7 @@ written_more table whole place i values value less is h =
     ∙ sym (ap (all_written table (place + i)) (drop_more values i 0 less))
     ∙ h
 
--- If no value is left, then the loop that stores values has stored all of them.
+-- If the loop that stores values has no value left to store, then it has stored all values.
 pub written_all : (table whole : List (Option ℕ)) (place i : ℕ) (values : List ℕ) → length values ≤ i → all_written table (place + i) (drop i values) ≡ whole → table ≡ whole
 written_all table whole place i values past h = sym (ap (all_written table (place + i)) (drop_all i values past)) ∙ h
 
@@ -74,7 +74,7 @@ get-map f [] i = refl
 get-map f (x ∷ xs) zero = refl
 get-map f (x ∷ xs) (suc i) = get-map f xs i
 
--- If no byte is left, then the loop that packs coils has packed all of them.
+-- If the loop that packs coils has no byte left to write, then it has packed all coils.
 pub packed_all : (count i : ℕ) (coils : List Bool) (out whole : List ℕ) → count ≡ i → take i out ++ packed_in (count - i) (drop (8 * i) coils) ≡ whole → take count out ≡ whole
 unfolding packed_in
 packed_all count i coils out whole same h =
@@ -97,7 +97,8 @@ length-values_at table address quantity h =
     let left : length (drop address table) ≡ length table - address = length-drop address table in
     length-take-le quantity (drop address table) (omega arith)
 
--- The registers of a response are the values that its data bytes encode.
+-- If the data bytes of a response encode values of a table as registers, then decoding the bytes
+-- gives these values.
 pub words_are : (bytes : List ℕ) (slice values : List (Option ℕ)) → slice ≡ values → bytes ≡ word_bytes (map kept_value slice) → words_of bytes ≡ map kept_value values
 words_are bytes slice values same h = ap words_of h ∙ words_of-word_bytes (map kept_value slice) ∙ ap (map kept_value) same
 
@@ -109,7 +110,8 @@ words_fit query quantity bytes slice values same h long wants =
     let equal : length (map kept_value slice) ≡ quantity = length-map slice kept_value ∙ ap length same ∙ long in
     (subst (WantsRegisters query) (sym size) wants, omega arith)
 
--- The coils of a response are the values that its data bytes encode.
+-- If the data bytes of a response encode values of a table as coils, then decoding the bytes gives
+-- these values.
 pub bits_are : (quantity : ℕ) (bytes : List ℕ) (slice values : List (Option ℕ)) → slice ≡ values → length values ≡ quantity → bytes ≡ packed (map is_kept_on slice) → coils_of quantity bytes ≡ map is_kept_on values
 bits_are quantity bytes slice values same long h =
     let coils = map is_kept_on slice in

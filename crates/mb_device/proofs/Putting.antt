@@ -7,14 +7,16 @@ use Rattle.mb_wire.specs.Links.{risen}
 use Rattle.mb_device.specs.Tricks.{Course, Playing, CutOff, following, carried_out, course_after, course_in, course_next, cuts, first_trick, frame_of, is_cut, later_of, sent, sent_next, sent_of, spelled_by, trick_at, up_to_cut}
 use Rattle.mb_device.specs.declared.trick.Trick.{Trick}
 
--- The bytes that a sender sends for a response on an open connection.
+-- The bytes sent for a response on an open connection depend on the fault injected at its frame
+-- number and on the delayed response.
 pub sends : (course : Course) (cut : Bool) (tricks : List (ℕ × Trick)) (number : ℕ) (later : List ℕ) (answer : Fields) → course ≡ course_in cut tricks number later → is_cut course ≡ false
     → sent_next course answer ≡ sent_of (trick_at tricks number) (spelled_by (trick_at tricks number) answer) later
 unfolding sent_next
 sends course true tricks number later answer is going = let both : true ≡ false = sym (ap is_cut is) ∙ going in absurd cc
 sends course false tricks number later answer is going = ap (λ c. sent_next c answer) is
 
--- The state of a connection after a response was sent.
+-- The state of an open connection after a response depends on the fault injected at the response's
+-- frame number and on the state before.
 pub goes_on : (course : Course) (cut : Bool) (tricks : List (ℕ × Trick)) (number : ℕ) (later : List ℕ) (answer : Fields) → course ≡ course_in cut tricks number later → is_cut course ≡ false
     → course_next course answer ≡ following (trick_at tricks number) (spelled_by (trick_at tricks number) answer) course
 unfolding course_next

@@ -33,7 +33,8 @@ Served-none buffered course around standing is_open going stands =
       counts = record { counted = sym (ap length nothing); is_open = λ _. subst IsOpen (sym none.1) is_open };
     }
 
--- The state of an open connection to a simulated device after the frames executed until now.
+-- If the connection to a simulated device is still open, then the device executed all frames that
+-- it read until now.
 reached : (buffered : List ℕ) (course : Course) (count : ℕ) (a b : Around) (before : Standing) → (so_far : Served buffered course count a b before) → is_serving before ≡ true
     → Dealt course a.maps (own_frames (buffered ++ so_far.taken)) (course_after_all course a.maps (own_frames (buffered ++ so_far.taken))) b.maps
 reached buffered course count a b before so_far serving =
@@ -164,16 +165,16 @@ turn_serves turned old new before after serving turns no_end =
 no_end : (result : Result Turned ServeFault) (turned : Turned) (after : Standing) → result ≡ Ok turned → turned.ended ≡ false → came_to_end result after ≡ false
 no_end result turned after is going = ap (λ r. came_to_end r after) is ∙ ap (λ b. b && not (is_over after)) going
 
--- If a turn (one read and its responses) did not report the end of the input, its read did not fail
--- or find the end.
+-- If a turn (one read and its responses) did not report the end of the input, then its read neither
+-- failed nor found the end.
 pub goes_on : (result : Result Turned ServeFault) (turned : Turned) (after : Standing) (last : Option LastTake) → ReportsTake (came_to_end result after) (is_read_fault result) last → result ≡ Ok turned → turned.ended ≡ false → ReportsTake false false last
 goes_on result turned after last reports is going =
     let first = no_end result turned after is going in
     let second : is_read_fault result ≡ false = ap is_read_fault is in
     record { answer = reports.answer; taken = reports.taken; end = sym first ∙ reports.end; failure = sym second ∙ reports.failure }
 
--- If a turn (one read and its responses) did not report the end of the input, the number of ends
--- found is unchanged.
+-- If a turn (one read and its responses) did not report the end of the input, it did not increase
+-- the number of ends found.
 pub counts_no_end : (result : Result Turned ServeFault) (turned : Turned) (standing : Standing) (before after : ℕ) → after ≡ risen (came_to_end result standing) before → result ≡ Ok turned → turned.ended ≡ false → after ≡ before
 counts_no_end result turned standing before after counted is going = counted ∙ ap (λ (b : Bool). risen b before) (no_end result turned standing is going)
 

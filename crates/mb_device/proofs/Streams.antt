@@ -51,7 +51,7 @@ carried_out-append (Playing tricks number later) maps (x ∷ xs) ys =
     ∙ ap (λ fs. fs ++ carried_out (course_after_all course maps (x ∷ xs)) ys) (sym (carried_out-next course answer x xs refl))
 carried_out-append CutOff maps (x ∷ xs) ys = ap (λ c. carried_out c ys) (sym (course_after-cut (answers maps (x ∷ xs))))
 
--- Lemmas on an open connection.
+-- Lemmas on a simulated device whose connection is open.
 
 -- If a connection is still open after some frames, then the simulated device executed all of these
 -- frames.
@@ -154,8 +154,8 @@ all_then_broken course mid xs ys a b c first dealt next =
           ∙ sym (maps_after_all-append a.maps xs upto) ∙ ap (maps_after_all a.maps) (sym all);
     }
 
--- If a simulated device answered all frames of a list, then the result of answering later frames is
--- also the result for both lists together.
+-- If a simulated device answered all frames of a list, then the contract `Answered` for the
+-- following frames implies `Answered` for both lists together.
 pub Answered-then : {X : Type 0} (result : Result X ServeFault) (course mid : Course) (xs ys : List (List ℕ)) (a b c : Around) → AllAnswered course xs a b → Dealt course a.maps xs mid b.maps → Answered result mid ys b c → Answered result course (xs ++ ys) a c
 Answered-then (Ok x) course mid xs ys a b c first dealt next = all_then_all course mid xs ys a b c first dealt next
 Answered-then (Err fault.Read) course mid xs ys a b c first dealt next = all_then_all course mid xs ys a b c first dealt next
@@ -180,8 +180,8 @@ BrokenOff-before course xs ys a b h =
       maps = h.maps;
     }
 
--- The number of executed frames in a byte sequence is the number executed now plus the number
--- executed later.
+-- Suppose that a device executed all frames in `xs`, the first frames of a byte sequence, and then
+-- `count` of the other frames. Then the total number of executed frames is the sum of both numbers.
 pub counts_then : (course mid : Course) (maps after : Maps) (xs : List (List ℕ)) (bytes left : List ℕ) (count : ℕ) → Dealt course maps xs mid after → own_frames bytes ≡ xs ++ own_frames left → rest bytes ≡ rest left → Counts count (stretch mid after left) → Counts (length xs + count) (stretch course maps bytes)
 counts_then course mid maps after xs bytes left count dealt frames rests counts =
     let all = ap length (ap (carried_out course) frames ∙ carried_then course mid maps after xs (own_frames left) dealt) ∙ length-append xs _ in
@@ -247,7 +247,8 @@ cut_reports count course maps xs ys bytes buffered frames cut counted =
 
 -- Lemmas on the complete frame that the reader of frames has buffered.
 
--- The parsed fields are those of the frame that the reader has buffered.
+-- If the reader of frames returns a parsed frame, then it has buffered the bytes of a frame with
+-- the same fields.
 lent_frame : (shown : Option Frame) (buffered : Option (List ℕ)) (frame : Frame) → option_map spelled shown ≡ option_map fields_of buffered → shown ≡ Some frame
     → (f : List ℕ) × (buffered ≡ Some f) × (spelled frame ≡ fields_of f)
 lent_frame shown None frame same is = absurd cc

@@ -12,7 +12,8 @@ use Rattle.mb_device.specs.declared.kinds.BankFault.TheVariants.{AreasOverlap, O
 use Rattle.mb_device.specs.declared.kinds.Kind.{Kind}
 use Rattle.mb_device.specs.declared.kinds.Kind.TheVariants.{Coil, Discrete, Holding, Input}
 
--- A number for each kind of values (coils, inputs, registers). Contracts compare kinds by number.
+-- A numeric code for each kind of values: coils, discrete inputs, holding registers and input
+-- registers. Contracts compare kinds by their codes.
 abbrev pub kind_number : Kind → ℕ
 kind_number Coil = 1
 kind_number Discrete = 2
@@ -59,18 +60,20 @@ AllBeginAs areas maps =
     (kind : Kind) (address : ℕ) → address < ADDRESSES
     → value_at maps kind address ≡ first_value areas kind address
 
--- The number of each reason to reject a range of addresses, in the order of the checks.
+-- The numeric code of each reason to reject a range of addresses, in the order of the checks.
 abbrev pub bank_fault_number : BankFault → ℕ
 bank_fault_number AreasOverlap = 1
 bank_fault_number OutOfRange = 2
 bank_fault_number Memory = 3
 
--- The table after the values at `count` addresses from `start` were set to 0.
+-- The table after the values at consecutive addresses were set to 0: the given number of addresses
+-- from the given start on.
 abbrev pub begun_from : List (Option ℕ) → ℕ → ℕ → List (Option ℕ)
 begun_from table start count =
     take start table ++ (replicate count (Some 0) ++ drop (start + count) table)
 
--- True if the device has at least one of the `count` addresses from `start`.
+-- True if the device has at least one of the addresses: the given number of addresses from the
+-- given start on.
 abbrev pub is_any_there : List (Option ℕ) → ℕ → ℕ → Bool
 is_any_there table start count = list_any (λ value. is_some value) (values_at table start count)
 
@@ -78,9 +81,9 @@ is_any_there table start count = list_any (λ value. is_some value) (values_at t
 abbrev pub is_past_end : List (Option ℕ) → ℕ → ℕ → Bool
 is_past_end table start count = count == 0 || nat_lt (length table) (start + count)
 
--- The effect of adding an area (a range of addresses): success if its addresses are in range and
--- the device has none of them. Otherwise the first fault, with the table unchanged. The result
--- `Memory` never occurs.
+-- The effect of adding an area (a range of addresses). The call succeeds if the addresses are in
+-- range and the device has none of them yet. Otherwise it returns the first fault, and the table is
+-- unchanged. The result `Memory` never occurs.
 abbrev pub Adds : List (Option ℕ) → (start count : ℕ) → Result (Unit {0}) BankFault
     → List (Option ℕ) → Type 0
 Adds old start count (Ok done) new =

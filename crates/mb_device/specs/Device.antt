@@ -47,8 +47,8 @@ kept_value value = unwrap_or value 0
 abbrev pub is_kept_on : Option ℕ → Bool
 is_kept_on value = not (kept_value value == 0)
 
--- The response `answer` if the device has all `count` addresses, otherwise exception 2 (illegal
--- data address).
+-- The given response if the device has all `count` addresses, otherwise exception 2 (illegal data
+-- address).
 abbrev pub if_there : List (Option ℕ) → (address count : ℕ) → Answer → Answer
 if_there table address count answer =
     if are_there table address count then answer else Exception 2
@@ -78,7 +78,7 @@ abbrev pub words_written : List (Option ℕ) → (address : ℕ) → List ℕ �
 words_written table address words =
     if are_there table address (length words) then all_written table address words else table
 
--- The response to a request, assuming that the device has all of its addresses.
+-- The response to a request, for a device that has all addresses of the request.
 abbrev pub answered : Maps → Query → Answer
 answered maps (ReadCoils address quantity) =
     Bits (map is_kept_on (values_at maps.coils address quantity))
@@ -93,7 +93,7 @@ answered maps (WriteRegister address value) = Echo
 answered maps (WriteCoils address coils) = Echo
 answered maps (WriteRegisters address values) = Echo
 
--- The register map after a request, assuming that the device has all of its addresses.
+-- The register map after a request, for a device that has all addresses of the request.
 abbrev pub carried_out : Maps → Query → Maps
 carried_out maps (ReadCoils address quantity) = maps
 carried_out maps (ReadDiscrete address quantity) = maps

@@ -27,7 +27,7 @@ in_all exchanges =
     }
 
 -- True if the bytes written are the responses to all Modbus frames that the bytes read complete.
--- The new register map and connection state are those after these frames.
+-- Also requires that the new register map and connection state are those after these frames.
 pub record Exchanges (buffered : List ℕ) (course : Course) (exchange : Exchange) (old new : Maps)
     (standing : Standing) : Type 0 where
   pub given : exchange.given ≡ sent_to course old (own_frames (buffered ++ exchange.taken))

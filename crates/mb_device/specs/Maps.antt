@@ -74,17 +74,19 @@ with_table maps Input table =
       inputs = table;
     }
 
--- The values at `count` addresses of a table from `address`.
+-- The values at consecutive addresses of a table: the given number of values from the given address
+-- on.
 abbrev pub values_at : List (Option ℕ) → ℕ → ℕ → List (Option ℕ)
 values_at table address count = take count (drop address table)
 
--- True if the device has all `count` addresses of the table from `address`.
+-- True if the device has all of these addresses: the given number of addresses of the table from
+-- the given address on.
 abbrev pub are_there : List (Option ℕ) → ℕ → ℕ → Bool
 are_there table address count =
     nat_le (address + count) (length table)
     && list_all (λ value. is_some value) (values_at table address count)
 
--- The table after a list of values is written from `address`.
+-- The table after a list of values is written at consecutive addresses from the given address on.
 abbrev pub all_written : List (Option ℕ) → ℕ → List ℕ → List (Option ℕ)
 all_written table address [] = table
 all_written table address (value ∷ values) =

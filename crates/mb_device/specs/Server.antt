@@ -56,8 +56,8 @@ abbrev pub course_after_all : Course → Maps → List (List ℕ) → Course
 course_after_all course maps frames = course_after course (answers maps frames)
 
 -- The state of a simulated device on a connection. `Holds`: the connection is open, and an
--- incomplete frame is buffered. `Over`: an injected fault closed the connection. `Faulted`: a call
--- returned a fault.
+-- incomplete frame is buffered. `Over`: an injected fault closed the connection. `Faulted`: an
+-- earlier call returned a fault.
 pub data Standing : Type 0 where
   Holds : List ℕ → Course → Standing
   Over : Standing
@@ -80,8 +80,9 @@ pub record Around : Type 0 where
 abbrev pub around : Option (List ℕ) → Option (List ℕ) → Maps → Around
 around remaining given maps = record { remaining = remaining; given = given; maps = maps }
 
--- True if a device executed all frames until its connection was closed, and sent a complete
--- response to each, as injected faults changed it.
+-- True if a device executed all frames of a list and sent the complete response to each, as
+-- injected faults changed it. If an injected fault closed the connection, the frame with this fault
+-- was the last one executed.
 pub record AllAnswered (course : Course) (frames : List (List ℕ)) (old new : Around) : Type 0 where
   pub given : Appends old.given new.given (sent_to course old.maps frames)
   pub maps : new.maps ≡ maps_after_all old.maps (carried_out course frames)
@@ -101,8 +102,8 @@ pub record BrokenOff (course : Course) (frames : List (List ℕ)) (old new : Aro
   pub given : Appends old.given new.given (sent_to course old.maps earlier ++ part)
   pub maps : new.maps ≡ maps_after_all old.maps (earlier ++ frame ∷ [])
 
--- The frames executed and the bytes sent, by the result of a call. Only after a failed write is the
--- response to a frame incomplete.
+-- States, for each result of a call, which frames were executed and which bytes were sent. Only
+-- after a failed write is a response incomplete.
 abbrev pub Answered : {X : Type 0} → Result X ServeFault → Course → List (List ℕ) → Around → Around
     → Type 0
 Answered (Ok x) course frames old new = AllAnswered course frames old new
@@ -111,32 +112,32 @@ Answered (Err Write) course frames old new = BrokenOff course frames old new
 Answered (Err Garbled) course frames old new = AllAnswered course frames old new
 Answered (Err TurnsUsed) course frames old new = AllAnswered course frames old new
 
--- The state of a simulated device after a call with this result. `bytes` are all bytes that the
--- device has read on the connection.
+-- The state of a simulated device after a call with this result. The byte list has the bytes
+-- buffered before the call, followed by the bytes that the call read.
 abbrev pub standing_after : {X : Type 0} → Result X ServeFault → List ℕ → Course → Standing
 standing_after (Ok x) bytes course = standing_on (rest bytes) course
 standing_after (Err fault) bytes course = Faulted
 
--- A part of a connection: its bytes, including those buffered before, and the connection's state
--- before and after them.
+-- A part of the input of a connection: the bytes, including those buffered before, and the
+-- connection's state before and after them.
 pub record Stretch : Type 0 where
   pub bytes : List ℕ
   pub before : Course
   pub left : Course
 
--- Combines bytes of a connection with the connection's state before and after them.
+-- Combines a part of the input of a connection with the connection's state before and after it.
 abbrev pub stretch : Course → Maps → List ℕ → Stretch
 stretch course maps bytes =
     record { bytes = bytes; before = course; left = course_after_all course maps (own_frames bytes) }
 
--- True if a device executed `count` frames in this part of a connection. The part has no invalid
--- length field, unless an injected fault closed the connection.
+-- True if a device executed `count` frames in this part of a connection's input. Also requires that
+-- the part has no invalid length field, unless an injected fault closed the connection.
 pub record Counts (count : ℕ) (stretch : Stretch) : Type 0 where
   pub counted : count ≡ length (carried_out stretch.before (own_frames stretch.bytes))
   pub is_open : is_cut stretch.left ≡ false → IsOpen (rest stretch.bytes)
 
--- True if this part of a connection has no invalid length field, and no injected fault closed the
--- connection.
+-- True if this part of a connection's input has no invalid length field, and no injected fault
+-- closed the connection.
 pub record IsGoing (stretch : Stretch) : Type 0 where
   pub going : is_cut stretch.left ≡ false
   pub is_open : IsOpen (rest stretch.bytes)
@@ -146,9 +147,9 @@ pub record IsGarbled (stretch : Stretch) : Type 0 where
   pub going : is_cut stretch.left ≡ false
   pub bad : IsBad (rest stretch.bytes)
 
--- Defines when a turn (one read and its responses) reports the end of the connection. If an
--- injected fault closed the connection, the turn reports the end. Otherwise the turn reports the
--- end only if it read nothing and no input is left.
+-- Defines when a turn (one read and its responses) may report the end of the connection. If an
+-- injected fault closed the connection, the turn must report the end. Otherwise the turn may report
+-- the end only if it read nothing and no input is left.
 pub record EndReports (ended : Bool) (left : Course) (taken : List ℕ) (remaining : Option (List ℕ)) :
     Type 0 where
   pub cut : is_cut left ≡ true → ended ≡ true
@@ -200,8 +201,9 @@ is_read_fault (Err Write) = false
 is_read_fault (Err Garbled) = false
 is_read_fault (Err TurnsUsed) = false
 
--- True if the last read from the connection had a buffer of 260 bytes. The read found the end
--- exactly if `ended` is true, and failed exactly if `failed` is true.
+-- True if the last read from the connection had a buffer of 260 bytes, and both flags match its
+-- result. `ended` is true exactly if the read found the end, and `failed` exactly if the read
+-- failed.
 pub record ReportsTake (ended failed : Bool) (last : Option LastTake) : Type 0 where
   pub answer : Result Took LinkFailed
   pub taken : last ≡ Some (record { room = MAX_ADU; answer = answer })
@@ -245,8 +247,8 @@ pub record Serves (buffered : List ℕ) (course : Course) (result : Result ℕ S
       (course_after_all course old.maps (own_frames (buffered ++ taken)))
   pub reports : ServeReports result (stretch course old.maps (buffered ++ taken)) new.remaining
 
--- The effects of `serve` by a device whose state before the call is `held`. If its connection is
--- open, they are the effects that `Serves` defines.
+-- States that, if the connection of a device in the state `held` is open, then `serve` has the
+-- effects that `Serves` defines.
 abbrev pub ServesFrom : (held : Standing) → Result ℕ ServeFault → (old new : Around)
     → (standing : Standing) → Type 0
 ServesFrom held result old new standing =
@@ -329,7 +331,7 @@ is_serving (Holds buffered course) = true
 is_serving Over = false
 is_serving Faulted = false
 
--- The number of each fault that stops a simulated device, counted from 1.
+-- The numeric code of each fault that stops a simulated device. The codes begin at 1.
 abbrev pub serve_fault_number : ServeFault → ℕ
 serve_fault_number Read = 1
 serve_fault_number Write = 2

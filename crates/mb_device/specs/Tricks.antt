@@ -40,7 +40,7 @@ spelled_by (Some play.Garble) answer =
 spelled_by (Some (play.Cut count)) answer = frame_of answer
 
 -- The bytes sent after a frame is executed: the response as the fault changes it, followed by the
--- delayed response `later`.
+-- delayed response to an earlier frame.
 abbrev pub sent_of : Option Trick → List ℕ → List ℕ → List ℕ
 sent_of None frame later = frame ++ later
 sent_of (Some play.Drop) frame later = later
@@ -84,7 +84,8 @@ cuts (Some play.Unit) = false
 cuts (Some play.Garble) = false
 cuts (Some (play.Cut count)) = true
 
--- The response that is delayed after a frame, or no bytes unless the injected fault is `Later`.
+-- The response that is delayed after a frame: the response to this frame if the injected fault is
+-- `Later`, otherwise no bytes.
 abbrev pub later_of : Option Trick → List ℕ → List ℕ
 later_of None frame = []
 later_of (Some play.Drop) frame = []
@@ -101,7 +102,8 @@ following trick frame (Playing tricks number later) =
     if cuts trick then CutOff else Playing tricks (risen true number) (later_of trick frame)
 following trick frame CutOff = CutOff
 
--- The bytes that a connection sends for its next response.
+-- The bytes that a simulated device sends for the next response of a connection, as injected faults
+-- change them.
 unfoldable pub sent_next : Course → Fields → List ℕ
 sent_next (Playing tricks number later) answer =
     sent_of (trick_at tricks number) (spelled_by (trick_at tricks number) answer) later
@@ -124,8 +126,8 @@ abbrev pub course_after : Course → List Fields → Course
 course_after course [] = course
 course_after course (answer ∷ answers) = course_after (course_next course answer) answers
 
--- The frames that are executed, numbered from `number`: all frames up to and including the frame at
--- which an injected fault closes the connection.
+-- The frames that are executed, numbered from the given number on: all frames up to and including
+-- the frame at which an injected fault closes the connection.
 abbrev pub up_to_cut : List (ℕ × Trick) → ℕ → List (List ℕ) → List (List ℕ)
 up_to_cut tricks number [] = []
 up_to_cut tricks number (frame ∷ frames) =

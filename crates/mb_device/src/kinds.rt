@@ -27,7 +27,7 @@ pub struct Area {
 }
 
 /// The reason why areas do not form a register map. If several faults apply, the fault with the
-/// lowest number is reported.
+/// lowest numeric code is reported.
 #[derive(Clone, Copy, Debug, PartialEq, Eq)]
 pub enum BankFault {
     /// Two areas of the same kind share an address.
@@ -39,8 +39,8 @@ pub enum BankFault {
 }
 
 impl BankFault {
-    /// Returns the number of the fault, counted from 1. Faults are checked in the order of their
-    /// numbers, and the first fault that applies is reported.
+    /// Returns the numeric code of the fault. The codes begin at 1. Faults are checked in the order
+    /// of their codes, and the first fault that applies is reported.
     pub fn number(self) -> u8
         ensures { result ≡ bank_fault_number self }
     {

@@ -6,9 +6,9 @@ ghost use Rattle.mb_device.specs.Exchanges.{AllAreOne, ServingExchanges, TurnExc
 ghost use Rattle.mb_device.specs.Tricks.{Playing, carried_out, course_after, frame_of, is_cut, sent};
 ghost use Rattle.mb_device.specs.declared.trick.Trick.{Trick};
 
-/// Theorem: each successful call writes exactly the responses to the frames that the device read
-/// (an exchange). A call is one read with its responses, or `serve`. Consecutive exchanges form one
-/// exchange, even if the connection gained or lost bytes in between.
+/// Theorem: each successful call of `turn` or `serve` writes exactly the responses to the frames
+/// that the device read. The bytes read and written form an exchange. Consecutive exchanges form
+/// one exchange, even if the connection gained or lost bytes in between.
 pub fn turns_compose()
     ensures turn { TurnExchanges }
     ensures serving { ServingExchanges }

@@ -33,7 +33,8 @@ pub enum ServeFault {
 }
 
 impl ServeFault {
-    /// Returns the fault's number, counted from 1. The program does not print or store this number.
+    /// Returns the fault's numeric code. The codes begin at 1. The program does not print or store
+    /// them.
     pub fn number(self) -> u8
         ensures { result ≡ serve_fault_number self }
     {
@@ -57,7 +58,7 @@ pub struct Turned {
     pub ended: bool,
 }
 
-// The result of every read after an injected fault closed the connection: no frames, and the end of
+// The result of every turn after an injected fault closed the connection: no frames, and the end of
 // the input.
 const OVER: Turned = Turned {
     answered: 0,

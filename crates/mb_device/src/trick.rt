@@ -3,9 +3,9 @@
 /// A fault injected into the response to one frame. The request in the frame is still executed.
 #[derive(Clone, Copy, PartialEq, Eq)]
 pub enum Trick {
-    /// The fault that no response is sent.
+    /// The response is not sent.
     Drop,
-    /// The fault that the response is sent twice.
+    /// The response is sent twice.
     Twice,
     /// The response is delayed until the server has executed the next frame. It is sent after the
     /// next response, or alone if the next response is delayed too.

@@ -43,7 +43,8 @@ own_function query others =
     and_right (nat_lt 0 (length pdu)) (not (function_of query == function_of query || is_exception query pdu))
     (not_from_true _ (or_left (function_of query == function_of query) (is_exception query pdu) (eq-eqb (function_of query) (function_of query) refl)))
 
--- A response with the byte count and data that the request reads has no fault.
+-- A response to a read request has no fault if it has the byte count that the request requires and
+-- as many data bytes.
 bringing : (query : Query) (bytes : List ℕ) → brings_bytes (wanted_by query) ≡ true → length bytes ≡ byte_count (wanted_by query) → Sound query (function_of query ∷ byte_count (wanted_by query) ∷ bytes)
 bringing query bytes brings e =
     let count = byte_count (wanted_by query) in
@@ -142,8 +143,8 @@ five_only (a ∷ b ∷ c ∷ d ∷ []) h = refl
 five_only (a ∷ b ∷ c ∷ d ∷ e ∷ []) h = refl
 five_only (a ∷ b ∷ c ∷ d ∷ e ∷ f ∷ others) h = absurd (omega arith)
 
--- If a PDU has the request's function code, without the exception bit, then the PDU begins with
--- this function code.
+-- If a nonempty PDU has no wrong function code and is not an exception, then its first byte is the
+-- request's function code.
 begins : (query : Query) (pdu : List ℕ) → 1 ≤ length pdu → is_wrong_function query pdu ≡ false → is_exception query pdu ≡ false → slice_index pdu 0 ≡ function_of query
 begins query pdu some h plain =
     elim (and_cases _ _ h) [
@@ -154,7 +155,8 @@ begins query pdu some h plain =
       ]
     ]
 
--- True if the PDU consists of the function code, the byte count and the data.
+-- True if the PDU consists of the request's function code, the byte count that the request
+-- requires, and as many data bytes.
 pub record Brings (query : Query) (pdu : List ℕ) : Type 0 where
   pub shape : pdu ≡ function_of query ∷ byte_count (wanted_by query) ∷ drop 2 pdu
   pub count : length (drop 2 pdu) ≡ byte_count (wanted_by query)

@@ -52,7 +52,7 @@ plain function address field known short quantity coil =
       coil = coil;
     }
 
--- A quantity that the standard allows is not reported as a wrong quantity.
+-- If the standard allows a quantity for a function code, the check for wrong quantities accepts it.
 allowed : (function most quantity n : ℕ) → most_of function ≡ most → IsWithin quantity most → n ≡ quantity → (not (writes_one function) && (nat_lt n 1 || nat_lt (most_of function) n)) ≡ false
 allowed function most quantity n e h same =
     and_right (not (writes_one function)) _ (or_from _ _ (le-ltb n 1 (omega arith)) (le-ltb (most_of function) n (omega arith)))
@@ -68,7 +68,7 @@ coil_reads : (on : Bool) (address : ℕ) → query_in (head_bytes 5 address (coi
 coil_reads true address = reads _ _ (plain 5 address 65280 refl refl refl refl) (ap (λ n. WriteCoil n true) (whole address))
 coil_reads false address = reads _ _ (plain 5 address 0 refl refl refl refl) (ap (λ n. WriteCoil n false) (whole address))
 
--- A write request with a matching byte count and data has no fault.
+-- A write request has no fault if its byte count and its number of data bytes match its quantity.
 carrying : (function most address quantity : ℕ) (bytes : List ℕ) → is_known function ≡ true → carries_bytes function ≡ true → (function == 5) ≡ false → most_of function ≡ most → IsWithin quantity most → length bytes ≡ bytes_of function quantity → Faultless (head_bytes function address quantity ++ length bytes ∷ bytes)
 carrying function most address quantity bytes known carries other greatest within e =
     let pdu = head_bytes function address quantity ++ length bytes ∷ bytes in
@@ -193,8 +193,8 @@ within function pdu most many greatest h =
           (low, omega arith)
     ]
 
--- States that a PDU with this function code, if it passes all further checks, encodes the request
--- that the decoder returns.
+-- States that, if a PDU with this function code passes all further checks of the decoder, then it
+-- encodes the request that the decoder returns.
 abbrev Spelled : (List ℕ → Query) → List ℕ → ℕ → Type 0
 Spelled read others function =
     AreBytes (function ∷ others)

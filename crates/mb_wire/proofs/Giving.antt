@@ -12,8 +12,8 @@ from n bytes = take (length bytes - n) (drop n bytes)
 pub whole_again : (n : ℕ) (bytes : List ℕ) → take n bytes ++ from n bytes ≡ bytes
 whole_again n bytes = ap (λ t. take n bytes ++ t) (take_rest bytes n) ∙ take-append-drop n bytes
 
--- If a link (a byte connection) accepted all of `first` and then `next` was written, the result and
--- the link's output are those of one write of both.
+-- Suppose that a link (a byte connection) accepted all bytes of `first`, and `next` was then
+-- written. Both writes together satisfy the contract of one write of `first ++ next`.
 pub Gives-both : {X E : Type 0} (result : Result X E) (a b c : Option (List ℕ)) (first next : List ℕ) → Appends a b first → Gives result b c next → Gives result a c (first ++ next)
 Gives-both (Ok x) a b c first next given gives = Appends-trans a b c _ _ given gives
 Gives-both (Err e) a b c first next given gives =
@@ -25,14 +25,14 @@ Gives-both (Err e) a b c first next given gives =
       given = Appends-trans a b c _ _ given gives.given;
     }
 
--- If a link accepted the first `n` bytes and then the other bytes were written, the result and the
--- link's output are those of one write of all bytes.
+-- Suppose that a link accepted the first `n` bytes of a list, and the remaining bytes were then
+-- written. Both writes together satisfy the contract of one write of the list.
 pub Gives-then : {X E : Type 0} (result : Result X E) (a b c : Option (List ℕ)) (bytes : List ℕ) (n : ℕ) → Appends a b (take n bytes) → Gives result b c (from n bytes) → Gives result a c bytes
 Gives-then result a b c bytes n first next =
     subst (Gives result a c) (whole_again n bytes) (Gives-both result a b c (take n bytes) (from n bytes) first next)
 
--- If a write of some bytes is incomplete, then it is also an incomplete write of a longer list that
--- begins with these bytes.
+-- If a link accepted only a part of some bytes, then it accepted only a part of any longer list
+-- that begins with these bytes.
 pub GivesPart-before : (a b : Option (List ℕ)) (first next : List ℕ) → GivesPart a b first → GivesPart a b (first ++ next)
 GivesPart-before a b first next gives =
     record {

@@ -1,5 +1,5 @@
--- Proves that the conversion of a request or response to a value without borrowed bytes keeps its
--- validity. The converted request is valid, and the converted response answers the same requests.
+-- Proves that converting a borrowed request or response to an independent value keeps its validity.
+-- A valid request stays valid, and a response still answers the same requests.
 use Rattle.std.proofs.Common.{ℕ, sym, ap, ◌∙◌, subst}
 use Rattle.mb_wire.specs.Requests.{IsLawful, IsLawfulQuery, IsWithin, query_of}
 use Rattle.mb_wire.specs.Replies.{AnswersQuery, AnswersRequest, FitsRequest, answer_of}
@@ -28,8 +28,8 @@ answers_query request (Words bytes) h = h.0
 answers_query request Echo h = h
 answers_query request (Exception code) h = h
 
--- If a borrowed response is an exception, or answers a valid request with the right quantity of
--- data, then the response answers that request.
+-- If a response is an exception, or fits a valid request with the right quantity of data, then it
+-- answers the request.
 pub fitting_answers : (request : Request) (reply : Reply) → FitsRequest request reply → AnswersRequest request reply
 fitting_answers request (Bits quantity bytes) h = h.1
 fitting_answers request (Words bytes) h = h.1

@@ -137,7 +137,7 @@ unfolding packed_in
 length-packed_in zero coils = refl
 length-packed_in (suc count) coils = ap suc (length-packed_in count (drop 8 coils))
 
--- Clearing the bits after the last bit of a byte list changes nothing.
+-- Clearing the spare bits of a byte list changes nothing if all bits of the list are coils.
 pub cleared_after-whole : (bytes : List ℕ) → AreBytes bytes → cleared_after (8 * length bytes) bytes ≡ bytes
 unfolding cleared_after
 cleared_after-whole [] h = refl
@@ -151,7 +151,8 @@ cleared_after-whole (byte ∷ bytes) h =
     ∙ ap (λ n. n ∷ cleared_after (8 * length bytes) bytes) keep
     ∙ ap (λ xs. byte ∷ xs) (cleared_after-whole bytes (λ place. h (suc place)))
 
--- If spare bits are cleared in a list whose last byte has them, only that last byte changes.
+-- If the last byte of a byte list has spare bits (bits after the last coil), then clearing them
+-- changes only this byte.
 pub cleared_after-part : (whole : ℕ) (part : ℕ) (bytes : List ℕ) → AreBytes bytes → part < 8 → length bytes ≡ whole + 1 → cleared_after (8 * whole + part) bytes ≡ take whole bytes ++ (slice_index bytes whole % 2 ^ part) ∷ []
 unfolding cleared_after
 cleared_after-part whole part [] h small e = absurd (omega arith)

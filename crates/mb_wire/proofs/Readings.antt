@@ -1,5 +1,5 @@
 -- Proves that each byte list splits in exactly one way into complete frames and the bytes after
--- them. Also proves how each chunk that the frame reader consumes extends this split.
+-- them. Also proves how this split changes when the frame reader consumes one more chunk.
 use Rattle.std.proofs.Common.{◌≡◌, ℕ, zero, suc, ◌+◌, ◌-◌, ◌<◌, ◌≤◌, ◌⊎◌, inl, inr, true, false, List, [], ◌∷◌, ◌++◌, length, take, drop, refl, sym, ap, ◌∙◌, subst, arith, append_assoc, length-append, length-drop, length-take-le, lit<}
 use Rattle.std.specs.List.{flat_map, AllByRecursion}
 use Rattle.std.proofs.lemmas.List.{get_or_append_left, take_at, drop_at, take-append-drop, append-nil}
@@ -84,7 +84,8 @@ Reads-only bytes fs r h =
     let P : List ℕ → Type 0 = λ ys. (frames ys ≡ fs) × (rest ys ≡ r) in
     subst P (sym h.joined) (only_in (length (concat fs ++ r)) fs r h.each h.ends (omega arith))
 
--- A byte list that begins with a complete frame has exactly this frame as its first frame.
+-- If the check `begins_with_frame` succeeds, the first bytes of the list are a complete frame.
+-- Their number is 6 plus the value of the length field.
 pub frame_in_front : (bytes : List ℕ) → begins_with_frame bytes ≡ true → IsFrame (take (6 + span_of bytes) bytes)
 frame_in_front bytes e =
     let outer = and_parts _ _ e in
@@ -147,8 +148,8 @@ pub AllByRecursion-append : {X : Type 0} (P : X → Type 0) (xs ys : List X) →
 AllByRecursion-append P [] ys h g = g
 AllByRecursion-append P (x ∷ xs) ys h g = (h.0, AllByRecursion-append P xs ys h.1 g)
 
--- Suppose that the bytes after a stream's complete frames and the new bytes `p` form one frame.
--- Then the stream has that frame after its earlier frames, and no further bytes.
+-- Suppose that the bytes after a stream's complete frames form one frame together with the new
+-- bytes `p`. Then the longer stream has this frame last, and no further bytes.
 more_frame : (bytes r p : List ℕ) (fs : List (List ℕ)) → Reads bytes fs r → IsFrame (r ++ p) → Reads (bytes ++ p) (fs ++ (r ++ p) ∷ []) []
 more_frame bytes r p fs h f =
     record {
@@ -162,16 +163,17 @@ more_frame bytes r p fs h f =
       ends = inl (inl (lit< tt));
     }
 
--- Suppose that the bytes after a stream's complete frames and the new bytes `p` form no complete
--- frame. Then the stream has the same complete frames as before.
+-- Suppose that the bytes after a stream's complete frames form no complete frame, even together
+-- with the new bytes `p`. Then the longer stream has the same complete frames.
 more_rest : (bytes r p : List ℕ) (fs : List (List ℕ)) → Reads bytes fs r → IsOpen (r ++ p) ⊎ IsBad (r ++ p) → Reads (bytes ++ p) (fs ++ []) (r ++ p)
 more_rest bytes r p fs h ends =
     let P : List (List ℕ) → Type 0 = λ y. Reads (bytes ++ p) y (r ++ p) in
     subst P (sym (append-nil fs))
     record { joined = ap (λ y. y ++ p) h.joined ∙ append_assoc (concat fs) r p; each = h.each; ends = ends }
 
--- After a call of the frame reader, the stream has all earlier frames and the frame that the call
--- ended. If the call ended no frame, its bytes follow the last complete frame.
+-- After a call of the frame reader, the stream has the earlier frames, followed by the frame that
+-- the call completed. If the call completed no frame, the consumed bytes follow the last complete
+-- frame.
 pub Reads-fed : (what : Framing) (bytes r p : List ℕ) (fs : List (List ℕ)) → Reads bytes fs r → ReportsFraming what (r ++ p) → Reads (bytes ++ p) (fs ++ ended what (r ++ p)) ((buffered_after what (r ++ p)).rest)
 Reads-fed Need bytes r p fs h t = more_rest bytes r p fs h (inl t)
 Reads-fed Whole bytes r p fs h t = more_frame bytes r p fs h t.0

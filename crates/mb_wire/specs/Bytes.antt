@@ -1,11 +1,12 @@
--- Numbers of 16 bits in bytes, high byte first (Modbus Application Protocol V1.1b3, section 4.2).
+-- Defines the encoding of 16-bit numbers as bytes, high byte first (Modbus Application Protocol
+-- V1.1b3, section 4.2).
 use Rattle.std.specs.Prelude.{ℕ, ◌+◌, ◌*◌, ◌/◌, ◌%◌, ◌<◌, List, [], ◌∷◌, ◌++◌, slice_index}
 
 -- The two bytes of a 16-bit number, high byte first.
 abbrev pub word : ℕ → List ℕ
 word n = n / 256 ∷ n % 256 ∷ []
 
--- The 16-bit number in the two bytes from index `place`, high byte first.
+-- The 16-bit number in the two bytes from an index on, high byte first.
 abbrev pub number_at : List ℕ → ℕ → ℕ
 number_at bytes place = 256 * slice_index bytes place + slice_index bytes (place + 1)
 

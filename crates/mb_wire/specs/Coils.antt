@@ -2,7 +2,7 @@
 -- of the first byte is the first coil. The spare bits of the last byte are not coils.
 use Rattle.std.specs.Prelude.{ℕ, zero, suc, ◌+◌, ◌-◌, ◌*◌, ◌/◌, ◌%◌, ◌^◌, ◌==◌, min, Bool, if◌then◌else◌, List, [], ◌∷◌, ◌++◌, length, take, drop}
 
--- The `k` lowest bits of a number, the lowest bit first.
+-- The lowest bits of a number, as many as the first argument, the lowest bit first.
 unfoldable pub bits_in : ℕ → ℕ → List Bool
 bits_in zero n = []
 bits_in (suc k) n = (n % 2 == 1) ∷ bits_in k (n / 2)

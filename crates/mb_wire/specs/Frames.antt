@@ -1,26 +1,26 @@
--- The format of Modbus TCP frames (Modbus Messaging on TCP/IP V1.0b, section 3.1.3). Also defines
--- how a byte stream splits into complete frames and the bytes after them.
+-- Defines the format of Modbus TCP frames (Modbus Messaging on TCP/IP V1.0b, section 3.1.3). Also
+-- defines how a byte stream splits into complete frames and the bytes after them.
 use Rattle.std.specs.Prelude.{◌≡◌, ℕ, zero, suc, ◌+◌, ◌*◌, ◌<◌, ◌≤◌, ◌⊎◌, Bool, ◌&&◌, ◌||◌, nat_le, nat_lt, if◌then◌else◌, List, [], ◌∷◌, ◌++◌, length, take, drop, slice_index}
 use Rattle.mb_wire.specs.declared.limits.TheConstants.{MAX_LENGTH, MIN_LENGTH}
 use Rattle.std.specs.List.{flat_map, AllByRecursion}
 
--- The length field of a frame, in bytes 5 and 6: the number of bytes after the sixth.
+-- The length field of a frame, in its fifth and sixth byte: the number of bytes after the sixth.
 abbrev pub span_of : List ℕ → ℕ
 span_of bytes = 256 * slice_index bytes 4 + slice_index bytes 5
 
--- The transaction identifier of a frame, in bytes 1 and 2.
+-- The transaction identifier of a frame, in its first two bytes.
 abbrev pub tid_of : List ℕ → ℕ
 tid_of bytes = 256 * slice_index bytes 0 + slice_index bytes 1
 
--- The protocol identifier of a frame, in bytes 3 and 4: 0 for Modbus.
+-- The protocol identifier of a frame, in its third and fourth byte: 0 for Modbus.
 abbrev pub protocol_of : List ℕ → ℕ
 protocol_of bytes = 256 * slice_index bytes 2 + slice_index bytes 3
 
--- The unit identifier of a frame, in byte 7.
+-- The unit identifier of a frame, in its seventh byte.
 abbrev pub unit_of : List ℕ → ℕ
 unit_of bytes = slice_index bytes 6
 
--- The PDU of a frame, from byte 8.
+-- The PDU of a frame: all bytes from the eighth.
 abbrev pub pdu_of : List ℕ → List ℕ
 pdu_of bytes = drop 7 bytes
 

@@ -8,15 +8,16 @@ use Rattle.mb_wire.specs.declared.link.LinkFailed.{LinkFailed}
 use Rattle.mb_wire.specs.declared.link.Took.{Took}
 use Rattle.mb_wire.specs.declared.link.Took.TheVariants.{Bytes, End, Idle}
 
--- True if a read returns at most as many bytes as its buffer has, and at least one byte if the
--- buffer is not empty.
+-- The limits on the number of bytes that a successful read returns. It is at most the size of the
+-- buffer, and at least one if the buffer is not empty.
 abbrev pub TakesAtMost : Result Took LinkFailed → List ℕ → Type 0
 TakesAtMost (Ok (Bytes n)) piece = (n ≤ length piece) × (0 < length piece → 0 < n)
 TakesAtMost (Ok End) piece = Unit {0}
 TakesAtMost (Ok Idle) piece = Unit {0}
 TakesAtMost (Err failed) piece = Unit {0}
 
--- True if a read returns the next bytes of the input, and reports the end only if no input is left.
+-- True if a read returns the next bytes of the input. A read that reports the end of the input is
+-- allowed only if no input is left.
 abbrev pub TakeConsumes : Option (List ℕ) → Option (List ℕ) → Result Took LinkFailed → List ℕ
     → Type 0
 TakeConsumes old new (Ok (Bytes n)) piece = Consumes old new (take n piece)
@@ -24,7 +25,7 @@ TakeConsumes old new (Ok End) piece = Keeps old new × IsAtEnd new
 TakeConsumes old new (Ok Idle) piece = Keeps old new
 TakeConsumes old new (Err failed) piece = Keeps old new
 
--- The value of a counter after a call: one more if `rises` is true, otherwise unchanged. Counters
+-- The value of a counter after a call: one more if the flag is true, otherwise unchanged. Counters
 -- saturate at 2^64 - 1.
 abbrev pub risen : Bool → ℕ → ℕ
 risen rises count = if rises then min (count + 1) (2 ^ 64 - 1) else count
@@ -34,8 +35,8 @@ abbrev pub is_failed_give : Result ℕ LinkFailed → List ℕ → Bool
 is_failed_give (Ok n) bytes = n == 0 && nat_lt 0 (length bytes)
 is_failed_give (Err failed) bytes = true
 
--- True if call number `call` is the call that a test has set to fail. The first argument is the
--- number of the failing call, or `None` if no call fails.
+-- True if the second argument is the number of the call that must fail. The first argument is the
+-- number that a test has chosen, or `None` if no call must fail.
 abbrev pub is_call : Option ℕ → ℕ → Bool
 is_call None call = false
 is_call (Some fails) call = fails == call
@@ -47,7 +48,8 @@ is_end (Ok End) = true
 is_end (Ok Idle) = false
 is_end (Err failed) = false
 
--- True if the peer accepted only a first part of the bytes, perhaps none.
+-- True if the link (a byte connection) accepted some bytes from the front of the list, possibly
+-- none, but not all bytes.
 pub record GivesPart (old new : Option (List ℕ)) (bytes : List ℕ) : Type 0 where
   pub part : List ℕ
   pub unsent : List ℕ
@@ -55,8 +57,9 @@ pub record GivesPart (old new : Option (List ℕ)) (bytes : List ℕ) : Type 0 w
   pub whole : bytes ≡ part ++ unsent
   pub given : Appends old new part
 
--- True if the peer accepted all bytes of a successful write. If the write failed, the peer accepted
--- only a first part of the bytes.
+-- States what a link (a byte connection) accepted from a write. After a successful write it
+-- accepted all bytes. After a failed write it accepted only some bytes from the front, possibly
+-- none.
 abbrev pub Gives : {X E : Type 0} → Result X E → Option (List ℕ) → Option (List ℕ) → List ℕ → Type 0
 Gives (Ok x) old new bytes = Appends old new bytes
 Gives (Err failed) old new bytes = GivesPart old new bytes

@@ -9,7 +9,8 @@ use Rattle.mb_wire.specs.declared.link.Took.{Took}
 use Rattle.mb_wire.specs.declared.link.Took.TheVariants.{Bytes, End, Idle}
 
 -- The state of a connection in memory for tests. `input` is the unread input and `room` the size of
--- the output buffer. One call moves at most `piece` bytes, and the call with number `fails` fails.
+-- the output buffer. One read or write moves at most `piece` bytes, and the call with number
+-- `fails` fails.
 pub record Memory : Type 0 where
   pub input : List ℕ
   pub output : List ℕ
@@ -22,7 +23,7 @@ pub record Memory : Type 0 where
   pub ends : ℕ
   pub last : Option LastTake
 
--- True if no call was made over the test connection and nothing was written to it.
+-- True if nothing was read from the test connection or written to it, so that all counts are 0.
 pub record IsFresh (link : Memory) : Type 0 where
   pub output : link.output ≡ []
   pub calls : link.calls ≡ 0
@@ -31,19 +32,19 @@ pub record IsFresh (link : Memory) : Type 0 where
   pub ends : link.ends ≡ 0
   pub last : link.last ≡ None
 
--- True if the link counts one more call, and its output size, piece size and failing call are
--- unchanged.
+-- True if the test connection counts one more read or write, and its output size, piece size and
+-- failing call are unchanged.
 pub record CallsOnce (old new : Memory) : Type 0 where
   pub room : new.room ≡ old.room
   pub piece : new.piece ≡ old.piece
   pub fails : new.fails ≡ old.fails
   pub calls : new.calls ≡ risen true old.calls
 
--- True if the link's next call is set to fail.
+-- True if the next read or write over the test connection is set to fail.
 abbrev pub fails_next : Memory → Bool
 fails_next link = is_call link.fails (risen true link.calls)
 
--- The result of the link's next read into a buffer of `room` bytes.
+-- The result of the next read of the test connection into a buffer of `room` bytes.
 abbrev pub take_answer : Memory → ℕ → Result Took LinkFailed
 take_answer link room =
     if fails_next link then Err (record {})
@@ -73,11 +74,11 @@ pub record LeavesTake (old new : Memory) (room : ℕ) (answer : Result Took Link
   pub ends : new.ends ≡ risen (is_end answer) old.ends
   pub last : new.last ≡ Some (record { room = room; answer = answer })
 
--- The number of free bytes in the link's output buffer.
+-- The number of free bytes in the test connection's output buffer.
 abbrev pub output_free : Memory → ℕ
 output_free link = link.room - length link.output
 
--- The result of the link's next write of `count` bytes.
+-- The result of the next write of `count` bytes to the test connection.
 abbrev pub give_answer : Memory → ℕ → Result ℕ LinkFailed
 give_answer link count =
     if output_free link == 0 || fails_next link then Err (record {})

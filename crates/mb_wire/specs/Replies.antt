@@ -59,7 +59,7 @@ WantsHead query = wanted_by query ≡ Head
 abbrev pub echo_of : Query → List ℕ
 echo_of query = take 5 (query_bytes query)
 
--- True if the PDU encodes this response to the request `query`.
+-- True if the PDU encodes this response to the request.
 abbrev pub SpellsReply : Query → List ℕ → Answer → Type 0
 -- Coils: the function code, the byte count, and the coils that the request reads.
 SpellsReply query pdu (Bits bits) =
@@ -76,7 +76,7 @@ SpellsReply query pdu Echo = (wanted_by query ≡ Head) × (pdu ≡ echo_of quer
 -- An exception: the function code with its top bit set, and the exception code.
 SpellsReply query pdu (Exception code) = pdu ≡ (function_of query + 128) ∷ code ∷ []
 
--- The PDU of a response to the request `query`, with spare bits set to 0.
+-- The PDU of a response to the request, with spare bits set to 0.
 abbrev pub answer_bytes : Query → Answer → List ℕ
 answer_bytes query (Bits bits) = function_of query ∷ bytes_for (length bits) ∷ packed bits
 answer_bytes query (Words words) = function_of query ∷ 2 * length words ∷ word_bytes words
@@ -102,7 +102,8 @@ AnswersRequest request (lent.Words bytes) =
 AnswersRequest request lent.Echo = wanted_by (query_of request) ≡ Head
 AnswersRequest request (lent.Exception code) = Unit {0}
 
--- True if the response is an exception, or answers a valid request with the right quantity of data.
+-- True if the response is an exception. Any other response must answer the request with the right
+-- quantity of data, and the request must be valid.
 abbrev pub FitsRequest : Request → Reply → Type 0
 FitsRequest request (lent.Bits quantity bytes) =
     IsLawful request × AnswersRequest request (lent.Bits quantity bytes)
@@ -111,14 +112,14 @@ FitsRequest request (lent.Words bytes) =
 FitsRequest request lent.Echo = IsLawful request × AnswersRequest request lent.Echo
 FitsRequest request (lent.Exception code) = Unit {0}
 
--- Coil `i` of the response, from 0, or `None` if the response has no such coil.
+-- Coil `i` (counted from 0) of the response, or `None` if the response has no such coil.
 abbrev pub bit_at : Answer → ℕ → Option Bool
 bit_at (Bits bits) i = slice_get bits i
 bit_at (Words words) i = None
 bit_at Echo i = None
 bit_at (Exception code) i = None
 
--- Register `i` of the response, from 0, or `None` if the response has no such register.
+-- Register `i` (counted from 0) of the response, or `None` if the response has no such register.
 abbrev pub word_at : Answer → ℕ → Option ℕ
 word_at (Bits bits) i = None
 word_at (Words words) i = slice_get words i
@@ -143,7 +144,8 @@ byte_count Head = 0
 abbrev pub is_exception : Query → List ℕ → Bool
 is_exception query pdu = slice_index pdu 0 == function_of query + 128
 
--- True if the function code of the PDU is not the request's, with or without its top bit set.
+-- True if the PDU's first byte differs from the request's function code, and also from this code
+-- with its top bit set.
 abbrev pub is_wrong_function : Query → List ℕ → Bool
 is_wrong_function query pdu =
     nat_lt 0 (length pdu) && not (slice_index pdu 0 == function_of query || is_exception query pdu)
@@ -157,7 +159,8 @@ is_wrong_length query pdu =
     then nat_lt (length pdu) 2 || not (length pdu == 2 + slice_index pdu 1)
     else not (length pdu == 5)
 
--- True if the byte count does not match the quantity that the request reads.
+-- True if the byte count of a successful response does not match the quantity that the request
+-- reads.
 abbrev pub is_wrong_byte_count : Query → List ℕ → Bool
 is_wrong_byte_count query pdu =
     not (is_exception query pdu) && brings_bytes (wanted_by query)
@@ -190,7 +193,7 @@ abbrev pub answer_from : Query → List ℕ → Answer
 answer_from query pdu =
     if is_exception query pdu then Exception (slice_index pdu 1) else brought (wanted_by query) pdu
 
--- The response to the request `query` that the PDU encodes, or the first fault that applies.
+-- The response to the request that the PDU encodes, or the first fault that applies.
 abbrev pub answer_in : Query → List ℕ → Result Answer ReplyFault
 answer_in query pdu = value_unless (reply_fault query pdu) (answer_from query pdu)
 
@@ -220,7 +223,7 @@ reply_cleared query pdu =
 abbrev pub SpellsBack : Query → List ℕ → Reply → Type 0
 SpellsBack query pdu reply = answer_bytes query (answer_of reply) ≡ reply_cleared query pdu
 
--- The number of each response fault: its position in the order of the checks.
+-- The numeric code of each response fault: its position in the order of the checks.
 abbrev pub fault_number : ReplyFault → ℕ
 fault_number WrongFunction = 1
 fault_number WrongLength = 2

@@ -47,7 +47,7 @@ most_of function =
     else if function == 15 then MAX_WRITE_COILS
     else MAX_WRITE_REGISTERS
 
--- The number of data bytes in a write request with function code 15 or 16 for a quantity.
+-- The number of data bytes in a write request with function code 15 or 16 and the given quantity.
 abbrev pub bytes_of : ℕ → ℕ → ℕ
 bytes_of function quantity = if function == 15 then bytes_for quantity else 2 * quantity
 
@@ -121,7 +121,7 @@ abbrev pub request_cleared : List ℕ → List ℕ
 request_cleared pdu =
     if function_in pdu == 15 then take 6 pdu ++ cleared_after (field_in pdu) (drop 6 pdu) else pdu
 
--- The number of each request fault: its position in the order of the checks.
+-- The numeric code of each request fault: its position in the order of the checks.
 abbrev pub request_fault_number : RequestFault → ℕ
 request_fault_number UnknownFunction = 1
 request_fault_number WrongLength = 2

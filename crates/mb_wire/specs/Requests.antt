@@ -91,7 +91,7 @@ query_bytes query =
 abbrev pub request_bytes : Request → List ℕ
 request_bytes request = query_bytes (query_of request)
 
--- True if the quantity is between 1 and `most`.
+-- True if the quantity is at least 1 and at most the given maximum.
 abbrev pub IsWithin : ℕ → ℕ → Type 0
 IsWithin quantity most = (1 ≤ quantity) × (quantity ≤ most)
 

@@ -25,7 +25,7 @@ pub(crate) fn head(function: u8, address: u16, field: u16) -> [u8; 5]
     [function, address_high, address_low, field_high, field_low]
 }
 
-// Writes `bytes` into `out` from index `end`, and returns the new length in bytes.
+// Writes `bytes` into `out` from index `end`, and returns the index after the last byte written.
 pub(crate) fn append(out: &mut [u8; MAX_PDU], end: usize, bytes: &[u8]) -> usize
     requires { end + length bytes.now ≤ MAX_PDU }
     ensures count { result ≡ end + length bytes.now }
@@ -45,7 +45,8 @@ fn lowest_bits(byte: u8, count: u16) -> u8
     (u16::from(byte) % limit) as u8
 }
 
-// Writes `quantity` coils into `out` from index `end`. The spare bits of the last byte are 0.
+// Writes `quantity` coils into `out` from index `end`, and returns the index after the last byte
+// written. The spare bits of the last byte are 0.
 pub(crate) fn append_coils(
     out: &mut [u8; MAX_PDU],
     end: usize,
@@ -67,7 +68,8 @@ pub(crate) fn append_coils(
     }
 }
 
-// Writes the bytes of registers into `out` from index `end`, and returns the new length in bytes.
+// Writes the bytes of registers into `out` from index `end`, and returns the index after the last
+// byte written.
 pub(crate) fn append_words(out: &mut [u8; MAX_PDU], end: usize, bytes: &[u8]) -> usize
     requires fits { end + length bytes.now ≤ MAX_PDU }
     requires bytes { length bytes.now ≡ 2 * length (words_of bytes.now) }

@@ -1,4 +1,4 @@
-//! The `Link` trait: a byte stream to and from a peer, such as a TCP connection.
+//! The `Link` trait: a byte stream in both directions, such as a TCP connection.
 ghost use Rattle.std.specs.Prelude.{◌≡◌, ◌≤◌, ℕ, List, length, true, is_err, Some, None, IfOk};
 ghost use Rattle.std.specs.Io.KnownBytes.{Keeps, WriteAppends};
 ghost use Rattle.mb_wire.specs.Links.{Gives, TakeConsumes, TakesAtMost};
@@ -11,9 +11,9 @@ ghost use Rattle.mb_wire.specs.declared.link.LastTake.{LastTake};
 pub enum Took {
     /// The number of bytes that a read returned. They are at the front of the read buffer.
     Bytes(usize),
-    /// The peer closed its sending side: no further bytes will arrive.
+    /// The other side finished sending: no further bytes will arrive.
     End,
-    /// No bytes have arrived yet, and the peer has not closed the connection.
+    /// No bytes have arrived yet, and the other side has not finished sending.
     Idle,
 }
 
@@ -28,16 +28,17 @@ pub struct LastTake {
     pub answer: Result<Took, LinkFailed>,
 }
 
-/// A connection to a peer. All of its counts saturate at 2^64 - 1.
+/// A byte connection, such as a TCP connection, that counts reads, failures and ends of the input.
+/// The counts saturate at 2^64 - 1.
 pub trait Link {
     // The input bytes that later reads will return, and the output bytes written until now. `None`
-    // if the link cannot know them.
+    // if they are not known, as for a socket.
     ghost remaining: { Self → Option (List ℕ) } = { λ _. None };
 
     ghost given: { Self → Option (List ℕ) } = { λ _. None };
 
-    // The numbers of failed calls, of reads, and of reads that found the end of the input. The
-    // counts saturate at 2^64 - 1.
+    // Counts of calls: failed reads and writes, all reads, and reads that found the end of the
+    // input. The counts saturate at 2^64 - 1.
     ghost failed: { Self → ℕ };
 
     ghost taken: { Self → ℕ };
@@ -47,7 +48,7 @@ pub trait Link {
     // The last read from the link, or `None` before the first read.
     ghost last: { Self → Option LastTake };
 
-    /// Reads bytes that the peer sent into the front of `piece`.
+    /// Reads received bytes into the front of `piece`.
     fn take(&mut self, piece: &mut [u8]) -> Result<Took, LinkFailed>
         ensures bound { TakesAtMost result piece.new }
         ensures bytes { TakeConsumes (remaining self.old) (remaining self.new) result piece.new }
@@ -57,8 +58,8 @@ pub trait Link {
         ensures ends { ended self.new ≡ risen (is_end result) (ended self.old) }
         ensures last { last self.new ≡ Some (record { room = length piece.old; answer = result }) };
 
-    /// Writes bytes to the peer. Returns the number of bytes that the peer accepted, counted from
-    /// the first byte.
+    /// Writes bytes to the connection. Returns the number of bytes that the connection accepted,
+    /// counted from the first byte.
     fn give(&mut self, bytes: &[u8]) -> Result<usize, LinkFailed>
         ensures bound { IfOk result (λ n. n ≤ length bytes.now) }
         ensures bytes { WriteAppends (given self.old) (given self.new) result bytes.now }
@@ -69,7 +70,7 @@ pub trait Link {
         ensures ends { ended self.new ≡ ended self.old }
         ensures last { last self.new ≡ last self.old };
 
-    /// Returns the number of failed calls: those that returned `LinkFailed`, and writes that
+    /// Returns the number of failures: reads and writes that returned `LinkFailed`, and writes that
     /// accepted no byte.
     fn failures(&self) -> u64
         ensures { result ≡ failed self.now };
@@ -83,8 +84,8 @@ pub trait Link {
         ensures { result ≡ last self.now };
 }
 
-/// Writes all bytes to the peer, in several writes if needed. If a write fails, the peer may have
-/// accepted some of the bytes.
+/// Writes all bytes to the connection, in several writes if needed. If a write fails, the
+/// connection may have accepted some of the bytes.
 pub fn give_all<L: Link>(link: &mut L, bytes: &[u8]) -> Result<(), LinkFailed>
     ensures given { Gives result (L.given link.old) (L.given link.new) bytes.now }
     ensures remaining { Keeps (L.remaining link.old) (L.remaining link.new) }

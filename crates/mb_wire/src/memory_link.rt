@@ -1,4 +1,4 @@
-//! A connection over slices in memory, for tests. One of its calls can be set to fail.
+//! A connection over slices in memory, for tests. One of the reads and writes can be set to fail.
 ghost use Rattle.std.specs.Prelude.{◌≡◌, ◌≤◌, ◌+◌, ◌-◌, ◌==◌, length, take};
 ghost use Rattle.std.specs.Prelude.{is_err, Some, None, IfOk};
 ghost use Rattle.mb_wire.specs.Links.{TakeConsumes, TakesAtMost, is_call, is_end};

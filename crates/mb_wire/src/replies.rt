@@ -30,10 +30,11 @@ pub enum Reply<'a> {
 }
 
 /// A reason why a PDU is not a response to a request. If several faults apply, the fault with the
-/// lowest number is reported.
+/// lowest numeric code is reported.
 #[derive(Clone, Copy, Debug, PartialEq, Eq)]
 pub enum ReplyFault {
-    /// The first byte is not the request's function code, with or without its top bit set.
+    /// The first byte differs from the request's function code, and also from this code with its
+    /// top bit set.
     WrongFunction,
     /// The PDU is empty, or its length does not match its function and byte count.
     WrongLength,
@@ -44,8 +45,8 @@ pub enum ReplyFault {
 }
 
 impl ReplyFault {
-    /// Returns the fault's number, counted from 1. Faults are checked in the order of their
-    /// numbers, and the first fault that applies is reported.
+    /// Returns the fault's numeric code. The codes begin at 1. Faults are checked in the order of
+    /// their codes, and the first fault that applies is reported.
     pub fn number(self) -> u8
         ensures { result ≡ fault_number self }
     {
@@ -221,8 +222,8 @@ pub fn encode_reply(request: &Request<'_>, reply: &Reply<'_>, out: &mut [u8; MAX
 }
 
 impl Reply<'_> {
-    /// Returns coil or discrete input `i` of the response, from 0, or `None` if the response has
-    /// no such bit.
+    /// Returns coil or discrete input `i` (counted from 0) of the response, or `None` if the
+    /// response has no such bit.
     pub fn bit(&self, i: usize) -> Option<bool>
         ensures { result ≡ bit_at (answer_of self.now) i }
     {
@@ -238,7 +239,7 @@ impl Reply<'_> {
         }
     }
 
-    /// Returns register `i` of the response, from 0, or `None` if the response has no such
+    /// Returns register `i` (counted from 0) of the response, or `None` if the response has no such
     /// register.
     pub fn word(&self, i: usize) -> Option<u16>
         ensures { result ≡ word_at (answer_of self.now) i }

@@ -68,7 +68,8 @@ fn has_wrong_quantity(pdu: &[u8]) -> bool
     !writes_one && (quantity < 1 || quantity > greatest_quantity(pdu[0]))
 }
 
-// Returns the number of data bytes in a write request with function code 15 or 16 for a quantity.
+// Returns the number of data bytes in a write request with function code 15 or 16 and the given
+// quantity.
 fn carried_count(function: u8, quantity: u16) -> u32
     ensures { result ≡ bytes_of function quantity }
 {

@@ -61,7 +61,7 @@ pub enum Request<'a> {
 }
 
 /// A reason why a PDU is not a valid request. If several faults apply, the fault with the lowest
-/// number is reported.
+/// numeric code is reported.
 #[derive(Clone, Copy, Debug)]
 pub enum RequestFault {
     /// The PDU's first byte is none of the eight function codes that this crate decodes.
@@ -88,8 +88,8 @@ pub(crate) enum Wanted {
 }
 
 impl RequestFault {
-    /// Returns the fault's number, counted from 1. Faults are checked in the order of their
-    /// numbers, and the first fault that applies is reported.
+    /// Returns the fault's numeric code. The codes begin at 1. Faults are checked in the order of
+    /// their codes, and the first fault that applies is reported.
     pub fn number(self) -> u8
         ensures { result ≡ request_fault_number self }
     {

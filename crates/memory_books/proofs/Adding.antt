@@ -38,9 +38,8 @@ listed_still old new known same tables figures listed = record {
   figures = figures;
 }
 
--- If a store in memory agreed with one of the lists of records `left` before a call, then it agrees
--- with one of them after the call. The premise is that the call ends no agreement with a list of
--- records.
+-- Suppose that a call preserves a store's agreement with every list of records. If the store agreed
+-- with one of the lists `left` before the call, then also after it.
 pub one_still : (old new : ListBooks) → ((known : List Fact) → AreListed old known → AreListed new known) → (left : List (List Fact)) → HasOne old left → HasOne new left
 one_still old new still [] may = may
 one_still old new still (known ∷ left) (inl listed) = inl (still known listed)
@@ -57,7 +56,8 @@ figures_after_none : (old new : ListBooks) (facts known : List Fact) → facts �
 figures_after_none old new facts known none figures listed =
     subst (λ (fs : List Fact). AreFigures new.figures (with_facts fs known)) none (figures known listed.facts listed.figures)
 
--- If a store's list of records got the new records, then `Ok` is the correct result of the write.
+-- If the new records were appended to a store's list, then the result `Ok` satisfies the guarantees
+-- of a write.
 pub added : (old mid new : ListBooks) (facts : List Fact) → mid.facts.items ≡ old.facts.items ++ facts → mid.zone ≡ old.zone → mid.tables ≡ old.tables
     → FiguresFollow facts old mid → KeepsFacts (ledger_of mid) (ledger_of new) → new.zone ≡ mid.zone → new.last_failure ≡ old.last_failure
     → Books (ledger_of old) (ledger_of new) facts (Ok tt)
@@ -74,8 +74,8 @@ added old mid new facts is zone tables figures keeps still_zone none_failed = re
   goes = record { clean = λ c. c; faults = ap failures_in none_failed; zone = still_zone ∙ zone };
 }
 
--- If memory runs out before a store's list gets the new records, then the write correctly reports
--- the failure, and the store is unchanged.
+-- If memory runs out before the new records are appended to a store's list, then the returned error
+-- satisfies the guarantees of a failed write. The store is unchanged.
 pub not_added : (old new : ListBooks) (facts : List Fact) (lacks : AllocError) (result : Result (Unit {0}) BooksFault) → result ≡ reported (Err lacks)
     → new.facts.items ≡ old.facts.items → new.zone ≡ old.zone → new.tables ≡ old.tables → new.figures ≡ old.figures
     → failures_in new.last_failure ≡ faults_after result (failures_in old.last_failure) → (facts ≡ [] → false ≡ true)

@@ -1,4 +1,4 @@
--- Properties of writes to a store for tests, which fails a chosen call.
+-- Lemmas about writes to a test store, which wraps another store and fails at one chosen call.
 use Rattle.std.proofs.Common.{◌≡◌, List, [], ◌∷◌, true, false, refl, sym, subst, Result, Ok, Err}
 use Rattle.std.proofs.lemmas.List.Elements.{Contains-append_left, Contains-push}
 use Rattle.office_events.specs.declared.facts.Fact.{Fact}

@@ -22,8 +22,8 @@ no_more [] = omega arith
 no_more (f ∷ known) =
     omega (arith, one_more (as_opening f) (openings_in known), at_most_one (as_opening f), no_more known)
 
--- If the number of meters and the greatest timestamp agree with the records, then they also agree
--- after one more record.
+-- Suppose that the number of meters and the greatest timestamp agree with the records. If both are
+-- updated for one more record, they agree with the records including this one.
 pub figures_after : (old new : Figures) (f : Fact) (known : List Fact) → AreFigures old known → length known < 18446744073709551615
     → new.installations ≡ min (old.installations + length (openings_in (f ∷ []))) 18446744073709551615
     → new.latest ≡ max (moment_in f) old.latest → AreFigures new (f ∷ known)

@@ -1,4 +1,4 @@
--- Properties of lookups in a store for tests, which fails a chosen call.
+-- Lemmas about lookups in a test store, which wraps another store and fails at one chosen call.
 use Rattle.std.proofs.Common.{◌≡◌, ◌∙◌, List, ap, sym, subst, refl, Result, Ok}
 use Rattle.std.specs.Prelude.{IfOk}
 use Rattle.office_events.specs.declared.facts.Fact.{Fact}

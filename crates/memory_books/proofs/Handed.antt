@@ -10,8 +10,8 @@ use Rattle.office_books.specs.Rows.{TakesAll, HandsOn}
 use Rattle.office_books.specs.Spans.{rows_within}
 use Rattle.office_events.specs.declared.facts.Fact.{Fact}
 
--- If a query passes all of the requested rows in the store's records to the sink, then it satisfies
--- the guarantees of row queries.
+-- If a query passes exactly the requested rows of the store's records to the sink, then it
+-- satisfies the guarantees of row queries.
 pub all_handed_on : {S T : Type 0} (takes : S → T → S → Type 0) (old new : Ledger) (before after : S) (rows : List Fact → List T)
     → ((known : List Fact) → old.holds known → TakesAll takes before (rows known) after) → ((some : List T) × TakesAll takes before some after)
     → HandsOn takes old new before after (Ok tt) rows

@@ -34,8 +34,8 @@ module _ (span : Span) (meter : List ℕ) where
   abbrev among : Option HeldReading → List HeldReading
   among held = holds_within span (reverse (filter is_own (cons_option held [])))
 
-  -- After a record is added, the requested readings are those from before, followed by the record's
-  -- rejected reading, if any.
+  -- After a record is added, the query's result is its earlier result, followed by the record's
+  -- rejected reading if the query requests this reading.
   asked_more : (f : Fact) (known : List Fact) → asked (f ∷ known) ≡ asked known ++ asked (f ∷ [])
   asked_more f known =
       ap (λ (hs : List HeldReading). holds_within span (reverse (filter is_own hs))) (filter_map-append as_hold (f ∷ []) known)
@@ -67,8 +67,8 @@ module _ (span : Span) (meter : List ℕ) where
         let P : List HeldReading → Type 0 = λ rows. TakesAll takes before rows before in
         subst P (sym (ap among is)) refl
 
-    -- After the query for rejected readings processes one more record, the sink has received the
-    -- requested readings of all records so far.
+    -- The query for rejected readings visits the records one by one. After each record, the sink
+    -- has received the requested readings of all records visited so far.
     pub holds_more : (now after : S) (facts : List Fact) (i : ℕ) (f : Fact) → i < length facts → f ≡ get_or facts i f
         → TakesAll takes before (asked (reverse (take i facts))) now → TakesAll takes now (asked (f ∷ [])) after
         → TakesAll takes before (asked (reverse (take (i + 1) facts))) after

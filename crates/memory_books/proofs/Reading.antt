@@ -1,5 +1,5 @@
--- Lemmas about lookups in memory that first add new records to their tables, and store a failure if
--- memory runs out.
+-- Lemmas about lookups in a store in memory. A lookup first brings the lookup tables up to date,
+-- and stores its failure if memory runs out.
 use Rattle.std.proofs.Common.{◌≡◌, List, reverse, refl, sym, ap, subst, ◌∙◌, Option, Result, Ok}
 use Rattle.std.proofs.lemmas.List.{reverse-reverse}
 use Rattle.office_events.specs.declared.facts.Fact.{Fact}
@@ -21,8 +21,8 @@ use Rattle.memory_books.proofs.Adding.{one_still}
 pub in_turn : (books : ListBooks) (facts known : List Fact) → facts ≡ books.facts.items → AreListed books known → reverse facts ≡ known
 in_turn books facts known is listed = ap reverse (is ∙ listed.facts) ∙ reverse-reverse known
 
--- If a call changes only a store's lookup tables, then the store still agrees with the same
--- records.
+-- If a call changes only a store's lookup tables, and the new tables are correct, then the store
+-- still agrees with the same records.
 pub keeps_facts : (old new : ListBooks) (facts : List Fact) → new.facts.items ≡ old.facts.items → new.figures ≡ old.figures → facts ≡ old.facts.items
     → (AreLawful (reverse facts) → HaveCome old.tables facts → HaveCome new.tables facts) → KeepsFacts (ledger_of old) (ledger_of new)
 keeps_facts old new facts same figures is further = record { facts = still; left = one_still old new still }
@@ -36,7 +36,7 @@ keeps_facts old new facts same figures is further = record { facts = still; left
       figures = subst (λ (f : Figures). AreFigures f known) (sym figures) listed.figures;
     }
 
--- After new records are added to a store's lookup tables, each table agrees with all records of the
+-- After the lookup tables of a store are brought up to date, they agree with all records of the
 -- store.
 pub all_said : (old : ListBooks) (So : List Fact → Type 0) (facts known : List Fact) → facts ≡ old.facts.items
     → (AreLawful (reverse facts) → HaveCome old.tables facts → So (reverse facts)) → AreListed old known → So known
@@ -51,8 +51,8 @@ noting books last = record { facts = still; left = one_still books (record books
     still : (known : List Fact) → AreListed books known → AreListed (record books { last_failure = last }) known
     still known listed = record { lawful = listed.lawful; facts = listed.facts; tables = listed.tables; figures = listed.figures }
 
--- If a lookup changes only `last_failure` of the store, then it satisfies the guarantees of a
--- lookup.
+-- If a lookup changes nothing in the store except the stored last failure, then it satisfies the
+-- guarantees of a lookup.
 pub only_noted : {T : Type 0} (books : ListBooks) (last : Option BooksFault) (answer : Result T BooksFault)
     → failures_in last ≡ faults_after answer (failures_in books.last_failure)
     → OnlyReads (ledger_of books) (ledger_of (record books { last_failure = last })) answer
@@ -61,8 +61,8 @@ only_noted books last answer noted = record {
   keeps = noting books last;
 }
 
--- Suppose that a lookup first updates the store's tables, and then stores its failure, if any. Then
--- it satisfies the guarantees of a lookup.
+-- Suppose that a lookup brings the store's tables up to date, and then only stores its failure, if
+-- any. Then it satisfies the guarantees of a lookup.
 pub ready : {T : Type 0} (old mid : ListBooks) (last : Option BooksFault) (answer : Result T BooksFault) → KeepsFacts (ledger_of old) (ledger_of mid)
     → mid.zone ≡ old.zone → mid.last_failure ≡ old.last_failure → failures_in last ≡ faults_after answer (failures_in mid.last_failure)
     → OnlyReads (ledger_of old) (ledger_of (record mid { last_failure = last })) answer

@@ -6,8 +6,8 @@ use Rattle.office_events.specs.declared.facts.Fact.{Fact}
 use Rattle.memory_books.specs.declared.figures.Figures.{Figures}
 use Rattle.office_books.specs.Facts.{openings_in, latest_in}
 
--- True if the number of installed meters and the greatest timestamp in `figures` agree with these
--- records.
+-- True if `figures` has the number of meters that the given records install, and the greatest
+-- timestamp of these records.
 pub record AreFigures (figures : Figures) (known : List Fact) : Type 0 where
   pub installations : figures.installations ≡ length (openings_in known)
   pub latest : figures.latest ≡ latest_in known
@@ -16,9 +16,8 @@ pub record AreFigures (figures : Figures) (known : List Fact) : Type 0 where
 abbrev pub most_facts : ℕ
 most_facts = 18446744073709551615
 
--- True if the figures (number of meters, latest timestamp) changed correctly with the new records
--- `facts`. If the old figures agree with the old records, then the new figures agree with all
--- records.
+-- States that, if the old figures (number of meters, latest timestamp) agree with some records,
+-- then the new figures agree with these records plus `facts`.
 abbrev pub CountOn : (facts : List Fact) → (old new : Figures) → Type 0
 CountOn facts old new =
     (known : List Fact) → AreFigures old known → length known + length facts ≤ most_facts

@@ -9,17 +9,17 @@ use Rattle.memory_books.specs.Looking.{failures_in}
 use Rattle.memory_books.specs.declared.list_books.ListBooks.{ListBooks}
 use Rattle.office_books.specs.Lawful.{AreLawful}
 
--- True if the store in memory has exactly these records, and the rules accept each record after the
--- earlier records. The number of meters and the latest timestamp agree with all records. Each
--- lookup table agrees with the records that were added to the table.
+-- True if the store in memory has exactly these records, and each record is valid after the records
+-- before it. The number of meters and the latest timestamp agree with all records. Each lookup
+-- table agrees with the records for which it was already updated.
 pub record AreListed (books : ListBooks) (known : List Fact) : Type 0 where
   pub lawful : AreLawful known
   pub facts : books.facts.items ≡ reverse known
   pub tables : HaveCome books.tables books.facts.items
   pub figures : AreFigures books.figures known
 
--- True if the figures of the store (its number of meters and its latest timestamp) agree with the
--- records after the records `facts` are added, provided that they agreed before.
+-- States that, if the store's old figures (number of meters, latest timestamp) agree with its
+-- records, the new figures agree with the records plus `facts`.
 abbrev pub FiguresFollow : (facts : List Fact) → (old new : ListBooks) → Type 0
 FiguresFollow facts old new = (known : List Fact) → old.facts.items ≡ reverse known
     → AreFigures old.figures known
@@ -33,7 +33,7 @@ HasOne books (known ∷ left) = AreListed books known ⊎ HasOne books left
 -- The abstract state of a store in memory, which contracts refer to. The store never returns a
 -- wrong result (it is clean), is always open, and fails only if memory runs out.
 --
--- A crash leaves all records that the store has.
+-- After a crash, the store still has all of its records.
 abbrev pub ledger_of : ListBooks → Ledger
 ledger_of books = record {
   holds = AreListed books;

@@ -7,11 +7,13 @@ use Rattle.office_books.specs.declared.failures.Failures.{Failures}
 use Rattle.office_books.specs.declared.faults.BooksFault.{BooksFault}
 use Rattle.office_books.specs.declared.faults.BooksFault.TheVariants.{Memory}
 
--- The list of records with the latest first, from a list with the earliest first.
+-- Reverses a list of records. The argument begins with the earliest record, the result with the
+-- latest.
 abbrev pub latest_first : List Fact → List Fact
 latest_first facts = reverse facts
 
--- The result of a call of a store in memory, which fails only if memory runs out.
+-- Converts the result of a call of a store in memory: if memory ran out, the error is the store's
+-- fault `Memory`.
 abbrev pub reported : {T : Type 0} → Result T AllocError → Result T BooksFault
 reported (Ok answer) = Ok answer
 reported (Err lacks) = Err Memory

@@ -5,8 +5,7 @@ use Rattle.office_events.specs.declared.facts.Fact.{Fact}
 use Rattle.office_books.specs.declared.failures.Failures.{Failures}
 use Rattle.office_books.specs.Ledgers.{Ledger}
 
--- The model of a test store that has the records of the wrapped store (`beneath`), and its own
--- failure counter.
+-- The model of a test store that has the records of the wrapped store, and its own failure counter.
 abbrev pub refusing : Ledger → Failures → Ledger
 refusing beneath failures = record {
   holds = beneath.holds;

@@ -1,4 +1,4 @@
-//! A store in memory that fails a chosen call, for tests.
+//! A store in memory for tests, which fails at one chosen call.
 ghost use Rattle.std.specs.Prelude.{◌≡◌, IfErr};
 ghost use Rattle.office_books.specs.Faults.{faults_after, no_failures};
 ghost use Rattle.office_books.specs.declared.faults.BooksFault.TheVariants.{Store};
@@ -13,8 +13,8 @@ use office_events::{
     Register,
 };
 
-/// A store in memory that fails a chosen call, for tests. Every other call fails only for lack of
-/// memory.
+/// A store in memory for tests, which fails at one chosen call. Every other call fails only if
+/// memory runs out.
 #[derive(Drop)]
 pub struct FailingBooks {
     pub(crate) books: ListBooks,
@@ -48,7 +48,7 @@ impl FailingBooks {
         }
     }
 
-    /// Counts a call of the store, and fails the call that a test has chosen by its number.
+    /// Counts a call of the store, and returns an error if this is the call that must fail.
     fn called(&mut self) -> Result<(), BooksFault>
         ensures books { self.new.books ≡ self.old.books }
         ensures holds { (known : List Fact) → (ledger_of self.old.books).holds known

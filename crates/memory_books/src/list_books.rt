@@ -51,7 +51,8 @@ impl ListBooks {
         }
     }
 
-    /// Adds new records to all lookup tables. If memory runs out, some tables remain incomplete.
+    /// Updates all lookup tables for the records that they lack. If memory runs out, some tables
+    /// remain incomplete.
     fn catch_up(&mut self) -> Result<(), AllocError>
         ensures keeps { KeepsFacts (ledger_of self.old) (ledger_of self.new) }
         ensures whole { (known : List Fact) → AreListed self.old known
@@ -64,7 +65,8 @@ impl ListBooks {
         self.tables.catch_up(&self.facts)
     }
 
-    /// Adds new records to the lookup tables before a lookup, or fails if memory runs out.
+    /// Updates all lookup tables for the records that they lack, before a lookup. Fails if memory
+    /// runs out.
     fn ready(&mut self) -> Result<(), BooksFault>
         ensures reads { OnlyReads (ledger_of self.old) (ledger_of self.new) result }
         ensures whole { (known : List Fact) → AreListed self.old known

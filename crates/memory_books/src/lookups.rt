@@ -21,7 +21,7 @@ fn all_devices(alloc: Global, facts: &[Fact]) -> Result<Vec<Device>, AllocError>
         .collect(alloc)
 }
 
-/// Returns the devices, in the order in which they were added.
+/// Returns the devices in a list of records, in the order in which they were added.
 pub(crate) fn devices(alloc: Global, facts: &[Fact]) -> Result<Vec<Device>, AllocError>
     ensures { IfOk result (λ v. v.items ≡ reverse (devices_in (latest_first facts.now))) }
 {

@@ -1,5 +1,5 @@
--- Lemmas on adding the energies of a new entry, divided by quarter hour, one by one to the interval
--- rows: the energies of the quarter hours so far.
+-- Lemmas: the energy up to a new entry is split into shares, one for each quarter hour. The shares
+-- are added one by one to the interval rows.
 use Rattle.std.proofs.Common.{◌≡◌, ℕ, ◌+◌, ◌*◌, ◌^◌, ◌/◌, ◌<◌, ◌≤◌, ◌==◌, Bool, true, false, cond, List, [], ◌∷◌, refl, sym, ap, ◌∙◌, inl, arith}
 use Rattle.std.proofs.lemmas.Bool.{cond-false, eqb-true}
 use Rattle.std.proofs.lemmas.Bool.Decides.{nat_tests}
@@ -50,8 +50,9 @@ one_row row share shares false e rising le =
     past_row row (share ∷ []) shares (above_lower row.start share.start shares (omega (arith, lt)) rising.0)
     ∙ ap (λ rows. row ∷ rows) (past_row share [] shares rising.0 ∙ ap (λ rows. share ∷ rows) (all_new shares rising.1))
 
--- Merging later shares (energies of single quarter hours) into interval rows produces the same rows
--- as adding each share to the row of its interval.
+-- Suppose that no share (energy of a quarter hour) in a list starts before the last interval row.
+-- Merging the list into the rows then has the same result as adding each share to the row of its
+-- quarter hour.
 pub added_each : (rows : List Share) (share : Share) (shares : List Share) → Rising rows → Rising (share ∷ shares) → UpTo share.start rows
     → with_shares rows (share ∷ shares) ≡ with_each (share ∷ shares) rows
 added_each [] share shares up rising upto = sym (all_new (share ∷ shares) rising)
@@ -61,8 +62,8 @@ added_each (row ∷ next ∷ rows) share shares up rising upto =
     ap (λ rs. row ∷ rs) (added_each (next ∷ rows) share shares up.1 rising upto.1)
     ∙ sym (past_row row (next ∷ rows) (share ∷ shares) (lt, above_lower row.start share.start shares (omega (arith, lt)) rising.0))
 
--- True if merging shares (energies of single quarter hours) into interval rows produces the same
--- rows as adding each share to the row of its interval.
+-- States that merging shares (energies of quarter hours) into interval rows has the same result as
+-- adding each share to the row of its interval.
 abbrev IsAddedEach : List Share → List Share → Type 0
 IsAddedEach rows shares = with_shares rows shares ≡ with_each shares rows
 

@@ -1,5 +1,5 @@
--- The valid (not voided) entries of a meter's journal alone form a journal without cancellations
--- that obeys the rules.
+-- Lemmas: if a meter's journal is reduced to its valid (not voided) entries, the result is a
+-- journal that obeys the rules.
 use Rattle.std.proofs.Common.{◌≡◌, true, false, List, [], ◌∷◌, map, refl, sym, ap, subst, ◌∙◌, inl, inr}
 use Rattle.std.proofs.lemmas.Bool.{cases_Bool, cond-true, cond-false}
 use Rattle.energy_core.specs.declared.entries.Last.{Last}
@@ -15,12 +15,13 @@ use Rattle.meter_journal.specs.Laws.{VoidsLeaveNoTrace}
 use Rattle.meter_journal.proofs.Keeping.{rows_are_sound}
 use Rattle.meter_journal.proofs.AsEntered.{AreRowsOf, rows_are_entered, stands_on}
 
--- The meter's journal that records the entries of a list of rows produces exactly these entries.
+-- If each line of a meter's journal records the entry of one row of a list, then its valid entries
+-- are exactly these entries.
 entries_alone : (opening : Last) (rows : List EntryRow) → entries_of opening (entering rows) ≡ map (λ row. row.entry) rows
 entries_alone opening [] = refl
 entries_alone opening (row ∷ rows) = ap (λ (es : List Entry). row.entry ∷ es) (entries_alone opening rows)
 
--- No row of the list is a closing of the meter.
+-- States that no row of the list is a closing of the meter.
 abbrev AllOpen : List EntryRow → Type 0
 AllOpen [] = Unit {0}
 AllOpen (row ∷ rows) = (is_closing row.kind ≡ false) × AllOpen rows

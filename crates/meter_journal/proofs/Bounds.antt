@@ -1,5 +1,5 @@
--- Lemmas on the energy before the start of an interval in a true run, which lists the true counts
--- of an honest meter.
+-- Lemmas on the energy that a true run (the true counts of an honest meter over time) has before
+-- the start of a quarter hour.
 use Rattle.std.proofs.Common.{◌≡◌, ℕ, ℤ, ◌+◌, ◌-◌, ◌*◌, ◌%◌, ◌<◌, ◌≤◌, ◌==◌, nat_lt, nat_le, Bool, true, false, cond, if◌then◌else◌, List, [], ◌∷◌, refl, sym, ap, ◌∙◌, inl, inr, arith}
 use Rattle.std.proofs.Math.Nat.{add-mul}
 use Rattle.std.proofs.lemmas.Bool.{cases_Bool, cond-true, cond-false, eqb-true}
@@ -27,8 +27,9 @@ joined_before bound row share shares true e =
     ])
 joined_before bound row share shares false e = omega arith
 
--- Merging shares (energies of quarter hours) into interval rows adds up the energies of both before
--- any time `bound`.
+-- Suppose that shares (energies of quarter hours) are merged into interval rows. The energy of the
+-- result before any time `bound` is the sum of the energies of the rows and shares before this
+-- time.
 pub merged_before : (bound : ℕ) (rows shares : List Share)
     → energy_before bound (with_shares rows shares) ≡ energy_before bound rows + energy_before bound shares
 merged_before bound [] shares = omega arith
@@ -114,9 +115,9 @@ whole_run law ceiling sf first (b ∷ items) bound h =
       λ le. let all = whole_before law bound step h.0 le in let before = rest.1 (omega (arith, le, h.0)) in omega (arith, sum, all, before, on),
     )
 
--- The recorded energy before an interval's start is at least the true energy up to the last item
--- (count of an honest meter) at or before this start. It is at most the true energy up to the first
--- item at or after this start.
+-- The recorded energy before an interval's start has two bounds. It is at least the true energy up
+-- to the last item (count of an honest meter) at or before this start. It is at most the true
+-- energy up to the first item at or after this start.
 pub truth_is_spread : SharesAddUp → (ceiling : ℕ) (sf : ℤ) (first : Item) (items : List Item) (bound : ℕ) → IsTrueRun ceiling sf first items
     → bound % 900 ≡ 0
     → (advance_to sf first items bound ≤ rows_before bound sf first items) × (rows_before bound sf first items ≤ advance_past sf first items bound)

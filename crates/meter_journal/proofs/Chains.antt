@@ -1,5 +1,5 @@
--- The steps between consecutive entries of a meter follow one another without a gap, from the
--- opening (first) entry to the last entry.
+-- Lemmas: the steps between consecutive entries of a meter follow one another without a gap, from
+-- the opening (first) entry to the last entry.
 use Rattle.std.proofs.Common.{◌≡◌, ℕ, ◌+◌, ◌%◌, ◌<◌, ◌≤◌, List, [], ◌∷◌, inl, inr, ap, subst, Option, Some, None, arith}
 use Rattle.std.specs.List.{All}
 use Rattle.std.proofs.lemmas.Bool.{cases_lt}
@@ -19,7 +19,8 @@ use Rattle.meter_journal.proofs.Keeping.{Leaves, voids_leave, rows_are_sound, jo
 use Rattle.meter_journal.proofs.InTime.{in_time}
 use Rattle.meter_journal.proofs.Merging.{Among, TouchedBy, has_rows}
 
--- The time of the counter's state is the time of the meter's latest entry.
+-- After a list of entries of a meter, the time of the counter's state is the time of the latest
+-- entry.
 pub last_moment : (meter : Installed) (e : Entry) (es : List Entry) → (last_after meter (e ∷ es)).at ≡ moment_of e
 last_moment meter (entry.Step at raw rolls) es = omega arith
 last_moment meter (entry.Change at before new sf) es = omega arith
@@ -29,8 +30,8 @@ pub not_before : (meter : Installed) (es : List Entry) → AllFollow meter.range
 not_before meter [] h = omega arith
 not_before meter (e ∷ es) h = omega (arith, h.0.later, last_moment meter e es, not_before meter es h.1)
 
--- The interval from `s` is a quarter hour that ends after the meter's opening (first) entry and
--- begins before the last entry.
+-- States that the interval from `s` is a quarter hour that ends after the meter's opening (first)
+-- entry and begins before the last entry.
 pub record Lies (opened last s : ℕ) : Type 0 where
   pub whole : s % 900 ≡ 0
   pub following : opened < s + 900

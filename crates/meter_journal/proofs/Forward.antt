@@ -43,14 +43,15 @@ pub last_all : (opening : Last) (rows : List EntryRow) (i : ℕ) (last : Last) �
     → last ≡ last_of opening (entries_in (latest_first (take i rows))) → last ≡ last_of opening (entries_in (latest_first rows))
 last_all opening rows i last le is = is ∙ ap (λ (rs : List EntryRow). last_of opening (entries_in (latest_first rs))) (take_all i rows le)
 
--- If all rows of a list have consecutive sequence numbers, its older rows alone have them too.
+-- If all rows of a list have consecutive sequence numbers, then its older rows alone have
+-- consecutive sequence numbers too.
 
 pub numbered_below : (newer older : List EntryRow) → AreNumbered (newer ++ older) → AreNumbered older
 numbered_below [] older h = h
 numbered_below (row ∷ newer) older h = numbered_below newer older h.1
 
--- The rows of a list, the oldest first, have consecutive sequence numbers that begin with a given
--- number.
+-- States that the rows of a list, the oldest first, have consecutive sequence numbers that begin
+-- with a given number.
 abbrev pub NumberedFrom : ℕ → List EntryRow → Type 0
 NumberedFrom n [] = Unit {0}
 NumberedFrom n (row ∷ rows) = (row.place ≡ n) × NumberedFrom (suc n) rows
@@ -73,8 +74,8 @@ numbered_drop n m zero rows is h = let e : n ≡ m = omega (arith, is) in subst 
 numbered_drop n m (suc i) [] is h = tt
 numbered_drop n m (suc i) (row ∷ rows) is h = numbered_drop (suc n) m i rows (omega (arith, is)) h.1
 
--- Voiding (cancelling) an entry changes the rows after it only by recomputing the rollovers of
--- valid readings.
+-- If an entry is voided (cancelled), then the rows after it change only because the rollovers of
+-- valid readings are recomputed.
 void_onto : (opening : Last) (place n : ℕ) (newer before done : List EntryRow) → place < n → NumberedFrom n newer
     → with_void opening place before ≡ done
     → with_void opening place (reverse newer ++ before) ≡ reverse (rolled_on (last_of opening (entries_in done)) newer) ++ done
@@ -89,8 +90,8 @@ void_onto opening place n (row ∷ newer) before done lt h is =
     ∙ ap (λ (l : Last). reverse (rolled_on l newer) ++ next ∷ done) (last_on opening next done)
     ∙ sym (reverse_onto next (rolled_on (following (last_of opening (entries_in done)) next) newer) done)
 
--- Recomputing the rollovers of one more row preserves the invariant of the loop that recomputes
--- them.
+-- If the rollovers of one more row are recomputed, then the invariant of the loop that recomputes
+-- the rollovers of all rows still holds.
 pub roll_step : (rows : List EntryRow) (i : ℕ) (last stand : Last) (d next : EntryRow) → i < length rows → next ≡ rolled last (get_or rows i d)
     → stand ≡ following last next
     → take (i + 1) (set rows i next) ++ rolled_on stand (drop (i + 1) (set rows i next)) ≡ take i rows ++ rolled_on last (drop i rows)
@@ -107,8 +108,8 @@ roll_step rows i last stand d next lt next_is stand_is =
 pub roll_end : (rows : List EntryRow) (i : ℕ) (last : Last) → length rows ≤ i → take i rows ++ rolled_on last (drop i rows) ≡ rows
 roll_end rows i last le = ap (λ rs. take i rows ++ rolled_on last rs) (drop_all i rows le) ∙ append-nil (take i rows) ∙ take_all i rows le
 
--- The rows after an entry is voided (cancelled) are the unchanged older rows, the marked row, and
--- the newer rows with recomputed rollovers.
+-- Voiding (cancelling) an entry leaves the older rows unchanged, marks the entry's row, and
+-- recomputes the rollovers of the newer rows.
 pub void_at : (opening : Last) (place n : ℕ) (older : List EntryRow) (row : EntryRow) (newer : List EntryRow) → place < n → NumberedFrom n newer
     → row.place == place ≡ true
     → with_void opening place (latest_first (older ++ row ∷ newer))
@@ -123,7 +124,7 @@ void_at opening place n older row newer lt h at =
     ∙ sym (turn (struck row) (rolled_on (last_of opening (entries_in (latest_first older))) newer))
     ∙ ap reverse (sym (append_assoc older (struck row ∷ []) (rolled_on (last_of opening (entries_in (latest_first older))) newer)))
 
--- Choosing the first of three options that has a value gives one result, however they are grouped.
+-- Taking the first existing value of three options is associative.
 
 or_assoc : {X : Type 0} (a b c : Option X) → option_or (option_or a b) c ≡ option_or a (option_or b c)
 or_assoc None b c = refl

@@ -44,7 +44,8 @@ account_at meter rows i h =
     ap (λ (rs : List EntryRow). reverse rs) (sym (take-append-drop i rows)) ∙ reverse-append (take i rows) (drop i rows) in
     account_below meter (reverse (drop i rows)) (reverse (take i rows)) (subst (λ (rs : List EntryRow). HasAccount meter (entries_in rs)) split h)
 
--- A valid row adds its entry to the entries of the rows before the next index.
+-- If the row at the index `i` is valid, then its entry is added to the valid entries of the rows
+-- before it.
 pub earlier_standing : (rows : List EntryRow) (i : ℕ) (d : EntryRow) → i < length rows → (get_or rows i d).stands ≡ true
     → earlier rows (i + 1) ≡ (get_or rows i d).entry ∷ earlier rows i
 earlier_standing rows i d lt on = ap entries_in (turned rows i d lt) ∙ entries_standing (get_or rows i d) (reverse (take i rows)) on
@@ -106,8 +107,8 @@ total_next meter rows i d last total next h lt last_is total_is next_is =
           more ∙ ap (total_after meter) (sym (earlier_struck rows i d lt off))
     ]
 
--- A row that produces a step (an energy since the last valid entry) is valid, and a row without a
--- step is voided (cancelled).
+-- If a row produces a step (an energy since the last valid entry), then the row is valid. A row
+-- without a step is voided (cancelled).
 pub step_is : (range : ℕ) (rows : List EntryRow) (i : ℕ) (d : EntryRow) (last : Last) (step : Step) → Some step ≡ step_past range last (get_or rows i d)
     → ((get_or rows i d).stands ≡ true) × (step ≡ step_to range last (get_or rows i d).entry)
 step_is range rows i d last step is =

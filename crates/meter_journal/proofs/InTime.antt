@@ -1,5 +1,5 @@
--- The steps between consecutive entries of a meter are in order of time. Their interval rows are
--- therefore the energies of the steps, added up by quarter hour.
+-- Lemmas: the steps between consecutive entries of a meter are in order of time. Their interval
+-- rows are therefore the energies of the steps, added up by quarter hour.
 use Rattle.std.proofs.Common.{◌<◌, List, [], ◌∷◌, sym, ◌∙◌, arith}
 use Rattle.std.specs.List.{All}
 use Rattle.std.proofs.lemmas.List.Elements.{All-nil, All-cons}

@@ -17,7 +17,8 @@ use Rattle.meter_journal.proofs.Merging.{Above, Rising}
 different : (a b : ℕ) → a < b → a == b ≡ false
 different a b lt = grind (arith, nat_tests, lt)
 
--- A share (the energy of a quarter hour) in the interval of the last row is merged into that row.
+-- If a share (the energy of a quarter hour) is in the interval of the last row, then it is merged
+-- into that row.
 pub joined_same : (rows : List Share) (n : ℕ) (row share : Share) → length rows ≡ suc n → get_or rows n row ≡ row → row.start ≡ share.start
     → set rows n (record { start = row.start; mwh = row.mwh + share.mwh }) ≡ with_shares rows (share ∷ [])
 joined_same [] n row share long is at = absurd (omega (arith, long))
@@ -29,7 +30,8 @@ joined_same (first ∷ next ∷ rows) zero row share long is at = absurd (omega 
 joined_same (first ∷ next ∷ rows) (suc n) row share long is at =
     ap (λ rs. first ∷ rs) (joined_same (next ∷ rows) n row share (omega (arith, long)) is at)
 
--- A share (the energy of a quarter hour) in an interval after the last row becomes a new row.
+-- If a share (the energy of a quarter hour) is not in the interval of the last row, then it becomes
+-- a new row.
 pub joined_other : (rows : List Share) (n : ℕ) (row share : Share) → length rows ≡ suc n → get_or rows n row ≡ row → row.start == share.start ≡ false
     → rows ++ share ∷ [] ≡ with_shares rows (share ∷ [])
 joined_other [] n row share long is at = absurd (omega (arith, long))
@@ -43,8 +45,8 @@ pub joined_none : (rows : List Share) (share : Share) → length rows ≤ 0 → 
 joined_none [] share le = refl
 joined_none (row ∷ rows) share le = absurd (omega (arith, le))
 
--- The interval rows after the shares (energies of quarter hours) of a list are merged into them one
--- by one.
+-- The interval rows that result if the shares (energies of quarter hours) of a list are merged into
+-- them one by one.
 
 abbrev pub joined_all : List Share → List Share → List Share
 joined_all rows [] = rows
@@ -99,8 +101,8 @@ all_joined rows [] rising = sym (no_shares rows)
 all_joined rows (share ∷ shares) rising =
     all_joined (with_shares rows (share ∷ [])) shares rising.1 ∙ one_by_one rows share shares rising
 
--- The energy of a row and a list of shares (energies of quarter hours) is the same, whether the
--- first share is merged or not.
+-- Merging the first share of a list (of quarter-hour energies) into a row leaves the total energy
+-- of the row and the list unchanged.
 
 joined_sum : (row share : Share) (shares : List Share) (b : Bool)
     → energy_of (cond b (record { start = row.start; mwh = row.mwh + share.mwh } ∷ shares) (row ∷ share ∷ shares)) ≡ energy_of (row ∷ []) + energy_of (share ∷ shares)

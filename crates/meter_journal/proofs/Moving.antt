@@ -1,4 +1,4 @@
--- Lemmas on subtracting shares (energies of single quarter hours) from interval rows, and on adding
+-- Lemmas on adding shares (energies of single quarter hours) to interval rows, and on subtracting
 -- them.
 use Rattle.std.proofs.Common.{◌≡◌, ℕ, ◌+◌, ◌-◌, ◌%◌, ◌<◌, ◌≤◌, ◌==◌, true, false, cond, List, [], ◌∷◌, ◌++◌, refl, sym, ap, subst, ◌∙◌, inl, inr, arith, nat_lt, eq-eqb}
 use Rattle.std.specs.Prelude.{All, Contains}
@@ -65,8 +65,8 @@ amount_append : (xs ys : List Share) (s : ℕ) → amount_at (xs ++ ys) s ≡ am
 amount_append [] ys s = omega arith
 amount_append (x ∷ xs) ys s = omega (arith, amount_append xs ys s)
 
--- The shares (energies by quarter hour) of a step in one quarter hour add up to the step's energy
--- in this quarter hour.
+-- The shares (energies by quarter hour) of a step that start at `s` add up to the step's energy in
+-- the quarter hour from `s`.
 amount_of_step : SharesAddUp → (step : Step) (s : ℕ) → step.from < step.till → s % 900 ≡ 0 → amount_at (shares_of step) s ≡ share_at step s
 amount_of_step law step s lt whole =
     let spread = law step lt in
@@ -179,8 +179,8 @@ therein f (share ∷ shares) rows h enough = (
       (λ s there. omega (arith, enough s (among_same s (without_share share rows) rows (starts_less share rows) there))),
 )
 
--- Adding a share (the energy of a quarter hour) whose interval already has a row leaves the starts
--- of the rows unchanged.
+-- If the interval of a share (the energy of a quarter hour) already has a row, adding the share
+-- leaves all starts of rows unchanged.
 
 starts_with : (share : Share) (rows : List Share) → Among share.start rows → starts_of (with_share share rows) ≡ starts_of rows
 starts_with share [] there = absurd there
@@ -218,8 +218,8 @@ each_more f share (row ∷ rows) rising h there =
           )
     ]
 
--- The quarter hour of each share (an energy in one quarter hour) has a row in the list of interval
--- rows.
+-- States that the quarter hour of each share (an energy in one quarter hour) has a row in the list
+-- of interval rows.
 abbrev HaveRows : List Share → List Share → Type 0
 HaveRows [] rows = Unit {0}
 HaveRows (share ∷ shares) rows = Among share.start rows × HaveRows shares rows
@@ -386,8 +386,8 @@ all_taken (share ∷ shares) rows = omega (arith, all_taken shares (without_shar
 pub shares_move_energy : SharesMoveEnergy
 shares_move_energy shares rows = record { added = all_added shares rows; taken = all_taken shares rows }
 
--- If each quarter hour between `opened` and `last` has an interval row, each share (an energy in
--- one quarter hour) in this time has a row.
+-- If each quarter hour between `opened` and `last` has an interval row, the quarter hour of each
+-- share in this time has one. A share is an energy in one quarter hour.
 
 write_have : SharesAddUp → (opened last : ℕ) (steps : List Step) (rows : List Share) → AllBetween opened last steps
     → ((s : ℕ) → Lies opened last s → Among s rows) → HaveRows (all_shares steps) rows
@@ -441,8 +441,8 @@ until_last f opened last last' rows target begun le up each lie back up' each' l
           ∙ sym (cond-false _ _ _ e)
     ]
 
--- The interval rows after an entry was voided (cancelled): the shares (energies by quarter hour) of
--- removed steps are subtracted, and those of added steps are added.
+-- States how voiding (cancelling) an entry changes the interval rows. The shares (energies by
+-- quarter hour) of removed steps are subtracted, and those of added steps are added.
 pub record AreExchanged (meter : Installed) (es es' : List Entry) (out put : List Step) : Type 0 where
   pub therein : AreTherein (all_shares out) (rows_of_steps (steps_after meter es))
   pub intervals : rows_of_steps (steps_after meter es')

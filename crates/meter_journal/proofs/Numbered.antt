@@ -1,10 +1,12 @@
--- Lemmas on entry rows whose sequence numbers match their indices.
+-- Lemmas on entry rows whose sequence numbers follow from their indices: the row at the index `i`
+-- has the number `i + 2`.
 use Rattle.std.proofs.Common.{◌≡◌, ℕ, zero, suc, ◌+◌, ◌<◌, List, [], ◌∷◌, ◌++◌, reverse, take, drop, length, get_or, refl, sym, ap, subst, ◌∙◌, arith}
 use Rattle.std.proofs.lemmas.List.{reverse-append, length-reverse, length-take-le, take-append-drop, take_more}
 use Rattle.meter_journal.specs.declared.lines.EntryRow.{EntryRow}
 use Rattle.meter_journal.specs.Lists.{AreNumbered, latest_first}
 
--- The first `i` + 1 rows of a list in reverse order begin with the row at the index `i`.
+-- If the first `i` + 1 rows of a list are reversed, the result begins with the row at the index
+-- `i`.
 reverse_more : (rows : List EntryRow) (i : ℕ) (row : EntryRow) → i < length rows → row ≡ get_or rows i row → reverse (take (i + 1) rows) ≡ row ∷ reverse (take i rows)
 reverse_more rows i row less is =
     ap reverse (take_more rows i row less ∙ ap (λ r. take i rows ++ r ∷ []) (sym is)) ∙ reverse-append (take i rows) (row ∷ [])

@@ -1,5 +1,5 @@
--- Voiding (cancelling) an entry changes its row, the row of the next valid entry, and the steps
--- (energies) to and from the entry.
+-- Lemmas: voiding (cancelling) an entry changes only its row, the row of the next valid entry, and
+-- the steps (energies) to and from the entry.
 use Rattle.std.proofs.Common.{◌≡◌, ℕ, ◌+◌, ◌<◌, ◌≤◌, ◌==◌, Bool, true, false, cond, ◌&&◌, List, [], ◌∷◌, map, length, refl, sym, ap, subst, ◌∙◌, inl, inr, ◌⊎◌, Option, Some, None, arith, eq-eqb, nat_lt, if◌then◌else◌}
 use Rattle.std.specs.Option.{option_or}
 use Rattle.std.proofs.lemmas.Bool.{cases_Bool, cond-true, cond-false, eqb-true}
@@ -26,7 +26,7 @@ use Rattle.meter_journal.proofs.Forward.{last_on}
 use Rattle.meter_journal.proofs.Keeping.{IsGap, entries_standing, entries_struck, follow_rest, above, here, unrolled, mapped_some}
 use Rattle.meter_journal.proofs.StillFitting.{StandFits}
 
--- Recomputing the rollovers of a row that the rules accept leaves the row unchanged.
+-- If the rules accept a row, then recomputing its rollovers leaves the row unchanged.
 rolled_alike : (meter : Installed) (es : List Entry) (n : ℕ) (k : EntryKind) (e : Entry) (stands : Bool)
     → StandFits meter es (row_with n k e stands) → rolled (last_after meter es) (row_with n k e stands) ≡ row_with n k e stands
 rolled_alike meter es n k e false fits = refl
@@ -36,7 +36,7 @@ rolled_alike meter es n k e true fits =
 pub rolled_same : (meter : Installed) (es : List Entry) (row : EntryRow) → StandFits meter es row → rolled (last_after meter es) row ≡ row
 rolled_same meter es row fits = rolled_alike meter es row.place row.kind row.entry row.stands fits
 
--- A row that is neither the voided (cancelled) row nor the next valid row is unchanged.
+-- If a row is not the voided (cancelled) row and not the next valid row, then it is unchanged.
 unchanged : (place : ℕ) (next : Option EntryRow) (l : Last) (row : EntryRow) → row.place == place ≡ false → is_next next row ≡ false
     → changed_by place next l row ≡ row
 unchanged place next l row off other = cond-false _ _ _ off ∙ cond-false _ _ _ other
@@ -49,8 +49,8 @@ all_unchanged place l (row ∷ rows) h le =
     ap (λ r. r ∷ map (changed_by place None l) rows) (unchanged place None l row off refl)
     ∙ ap (λ rs. row ∷ rs) (all_unchanged place l rows h.1 (omega (arith, le)))
 
--- If all rows of a list have sequence numbers below that of `next`, voiding (cancelling) an entry
--- changes them as if no valid row followed.
+-- Suppose that an entry is voided (cancelled), and `next` is the next valid row after it. In a list
+-- of rows that all precede `next`, only the row of the voided entry changes.
 next_above : (place : ℕ) (next : EntryRow) (l : Last) (rows : List EntryRow) → AreNumbered rows → length rows + 2 ≤ next.place
     → map (changed_by place (Some next) l) rows ≡ map (changed_by place None l) rows
 next_above place next l [] h le = refl
@@ -89,8 +89,8 @@ weigh_row w meter row rows =
           omega (arith, here, all)
     ]
 
--- Each step (the energy between two entries) of the list ends after it begins, and lies between the
--- times `opened` and `last`.
+-- States that each step (the energy between two entries) of the list ends after it begins, and lies
+-- between the times `opened` and `last`.
 abbrev pub AllBetween : (opened last : ℕ) → List Step → Type 0
 AllBetween opened last [] = Unit {0}
 AllBetween opened last (step ∷ steps) = (opened ≤ step.from) × (step.from < step.till) × (step.till ≤ last) × AllBetween opened last steps
@@ -99,13 +99,13 @@ between_later : (opened m n : ℕ) (steps : List Step) → m ≤ n → AllBetwee
 between_later opened m n [] le h = tt
 between_later opened m n (step ∷ steps) le h = (h.0, h.1, omega (arith, h.2, le), between_later opened m n steps le h.3)
 
--- The step (the energy between two entries) is an element of the list.
+-- States that the step (the energy between two entries) is an element of the list.
 abbrev pub IsOneOf : Step → List Step → Type 0
 IsOneOf step [] = ⊥
 IsOneOf step (first ∷ steps) = (first ≡ step) ⊎ IsOneOf step steps
 
--- The steps (energies between entries) of the list `es'` are those of `es`, without the steps `out`
--- and with the steps `put`.
+-- States that the steps (energies between entries) of the entries `es'` are those of `es`, without
+-- the steps `out` and with the steps `put`.
 pub record AreMoved (meter : Installed) (es es' : List Entry) (out put : List Step) : Type 0 where
   pub moves : (w : Step → ℕ) → weigh w (steps_after meter es) + weigh w put ≡ weigh w (steps_after meter es') + weigh w out
   pub within : (w : Step → ℕ) → weigh w out ≤ weigh w (steps_after meter es)
@@ -122,13 +122,13 @@ out_to meter x next = steps_out meter (record { before = x.before; row = x.row; 
 abbrev pub write_to : Installed → Around → Option EntryRow → List Step
 write_to meter x next = steps_put meter (record { before = x.before; row = x.row; next = next })
 
--- The voided (cancelled) entry was the last valid entry of the meter.
+-- States that the voided (cancelled) entry was the last valid entry of the meter.
 pub record IsLast (meter : Installed) (place : ℕ) (rows : List EntryRow) (x : Around) : Type 0 where
   pub gap : IsGap meter.opening place rows x
   pub rows_are : with_void meter.opening place rows ≡ map (changed_by place None (last_before meter.opening x)) rows
 
--- The row `next` is the next valid row after the voided (cancelled) row. Its rollovers are
--- recomputed.
+-- States that the row `next` is the next valid row after the voided (cancelled) row, and that its
+-- rollovers are recomputed.
 pub record IsFollowed (meter : Installed) (place : ℕ) (rows : List EntryRow) (x : Around) (next : EntryRow) : Type 0 where
   pub rows_are : with_void meter.opening place rows ≡ map (changed_by place (Some next) (last_before meter.opening x)) rows
   pub last : last_after meter (entries_in (with_void meter.opening place rows)) ≡ last_after meter (entries_in rows)
@@ -139,7 +139,7 @@ abbrev pub Changes : Installed → (place : ℕ) → List EntryRow → Around �
 Changes meter place rows x None = IsLast meter place rows x
 Changes meter place rows x (Some next) = IsFollowed meter place rows x next
 
--- The time of the last valid entry never decreases when a row is added.
+-- If a row is added to a meter's list, then the time of the last valid entry never decreases.
 last_grows : (meter : Installed) (row : EntryRow) (rows : List EntryRow) → AllFollow meter.range meter.opening (entries_in (row ∷ rows))
     → (last_after meter (entries_in rows)).at ≤ (last_after meter (entries_in (row ∷ rows))).at
 last_grows meter row rows h =
@@ -156,8 +156,8 @@ last_grows meter row rows h =
       | inr off ↦ omega (arith, ap (λ (es : List Entry). (last_after meter es).at) (entries_struck row rows off))
     ]
 
--- Adding a row to a list of entry rows retains all steps (energies between consecutive entries) of
--- the earlier rows.
+-- If a row is added to a list of entry rows, then all steps (energies between consecutive entries)
+-- of the earlier rows stay.
 one_below : (meter : Installed) (row : EntryRow) (rows : List EntryRow) (step : Step) → IsOneOf step (steps_after meter (entries_in rows))
     → IsOneOf step (steps_after meter (entries_in (row ∷ rows)))
 one_below meter row rows step there =
@@ -166,8 +166,8 @@ one_below meter row rows step there =
       | inr off ↦ subst (λ (es : List Entry). IsOneOf step (steps_after meter es)) (sym (entries_struck row rows off)) there
     ]
 
--- The effect of voiding (cancelling) an entry, which `IsFollowed` describes, stays the same when a
--- row is added after the next valid row.
+-- `IsFollowed` describes the effect of voiding (cancelling) an entry. It is still true if a row is
+-- added after the next valid row.
 row_after : (meter : Installed) (place : ℕ) (row : EntryRow) (rows : List EntryRow) (x : Around) (next : EntryRow)
     → row.place == place ≡ false → AreNumbered (row ∷ rows) → StandFits meter (entries_in rows) row
     → AllFollow meter.range meter.opening (entries_in (row ∷ rows))
@@ -209,8 +209,8 @@ row_after meter place row rows x next off numbers fits follow h =
       };
     }
 
--- Adding a row that was voided (cancelled) earlier preserves `IsLast`: the entry to be voided was
--- the last valid entry.
+-- If the entry to be voided (cancelled) was the last valid entry (`IsLast`), this stays true after
+-- a row that is not valid is added.
 struck_after : (meter : Installed) (place : ℕ) (row : EntryRow) (rows : List EntryRow) (x : Around)
     → row.place == place ≡ false → row.stands ≡ false
     → IsLast meter place rows x → IsLast meter place (row ∷ rows) (passed row x)
@@ -228,7 +228,7 @@ struck_after meter place row rows x off struck h =
           ∙ ap (λ r. r ∷ map (changed_by place None l) rows) (sym (unchanged place None l row off refl));
     }
 
--- True if the entry row is an accepted meter reading.
+-- States that the entry row is an accepted meter reading.
 record IsRead (row : EntryRow) : Type 0 where
   reading : is_reading row.kind ≡ true
   at : ℕ
@@ -244,7 +244,8 @@ read_of n kind.Closing e b is = absurd (let f : false ≡ true = is in cc)
 read_of n kind.Reset e b is = absurd (let f : false ≡ true = is in cc)
 read_of n kind.Rescale e b is = absurd (let f : false ≡ true = is in cc)
 
--- A reading leaves the counter's scale factor unchanged.
+-- A reading leaves the counter's scale factor unchanged. The state after the reading depends only
+-- on the reading and on the scale factor before it.
 after_step : (l l' : Last) (at raw rolls rolls' : ℕ) → l.sf ≡ l'.sf → after l (entry.Step at raw rolls) ≡ after l' (entry.Step at raw rolls')
 after_step l l' at raw rolls rolls' is = ap (λ sf. let k : Last = record { at = at; raw = raw; sf = sf } in k) is
 
@@ -252,8 +253,8 @@ rolled_stands : (l : Last) (row : EntryRow) → row.stands ≡ true → is_readi
     → rolled l row ≡ record row { entry = with_rolls l row.entry }
 rolled_stands l row on reading = cond-true _ _ _ (ap (λ b. b && is_reading row.kind) on ∙ reading)
 
--- Removing an entry before a reading replaces the two steps (energies) to and from the removed
--- entry by one step.
+-- If an entry before a reading is removed, then one step (energy) to the reading replaces the two
+-- steps to and from the removed entry.
 next_moved : (meter : Installed) (before : List Entry) (e0 : Entry) (at raw rolls rolls' : ℕ)
     → AllFollow meter.range meter.opening (entry.Step at raw rolls ∷ e0 ∷ before)
     → AreMoved meter (entry.Step at raw rolls ∷ e0 ∷ before) (entry.Step at raw rolls' ∷ before)
@@ -276,8 +277,8 @@ next_moved meter before e0 at raw rolls rolls' h =
       write_between = (begun, omega (arith, there, first, second), omega arith, tt);
     }
 
--- If the voided (cancelled) entry was the last valid entry, a valid reading that is added becomes
--- the next valid entry (`IsFollowed`).
+-- If the voided (cancelled) entry was the last valid entry, then a valid reading that is added
+-- becomes the next valid entry (`IsFollowed`).
 next_after : (meter : Installed) (place : ℕ) (row : EntryRow) (rows : List EntryRow) (x : Around)
     → row.place == place ≡ false → row.stands ≡ true → is_read row.kind row.entry ≡ true → is_read x.row.kind x.row.entry ≡ true
     → AreNumbered (row ∷ rows) → AllFollow meter.range meter.opening (entries_in (row ∷ rows))

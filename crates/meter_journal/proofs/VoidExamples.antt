@@ -1,5 +1,5 @@
--- Worked examples of the change of a meter's state when an entry is added and when an entry is
--- voided (cancelled), computed from the definitions.
+-- Worked examples, computed from the definitions: how a meter's state changes when an entry is
+-- added, and when an entry is voided (cancelled).
 use Rattle.std.proofs.Common.{◌≡◌, ℕ, pos, true, false, List, [], ◌∷◌, map, Some, None, refl}
 use Rattle.energy_core.specs.declared.entries.Last.{Last}
 use Rattle.energy_core.specs.declared.entries.Step.{Step}
@@ -37,8 +37,8 @@ one = Entered kind.Reading (entry.Step 1900 5200 0) ∷ []
 abbrev two : Journal
 two = Entered kind.Reading (entry.Step 2800 5300 0) ∷ one
 
--- The second reading adds its energies by quarter hour: one to an existing interval row, and one as
--- a new row.
+-- The second reading adds its energy to two quarter hours: one already has an interval row, and the
+-- other gets a new row.
 
 second_step : step_on house one (entry.Step 2800 5300 0) ≡ step 1900 2800 100000
 unfolding unit_of

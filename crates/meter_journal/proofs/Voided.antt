@@ -1,5 +1,5 @@
--- The state of a meter after an entry is voided (cancelled): the last entry, steps and interval
--- rows (energies by quarter hour).
+-- Lemmas on the state of a meter after an entry is voided (cancelled): the last entry, steps and
+-- interval rows (energies by quarter hour).
 use Rattle.std.proofs.Common.{◌≡◌, ℕ, ◌-◌, List, [], ◌∷◌, refl, sym, ap, subst, ◌∙◌, inl, inr, Option, Some, None, arith}
 use Rattle.std.specs.Prelude.{All, sum_by}
 use Rattle.std.proofs.lemmas.Option.{same_Some}
@@ -26,7 +26,8 @@ use Rattle.meter_journal.proofs.Striking.{weigh, IsOneOf, AreMoved, IsLast, Chan
 abbrev with_next : Around → Option EntryRow → Around
 with_next a next = record { before = a.before; row = a.row; next = next }
 
--- Removing the last entry of a meter removes only the step (the energy) to this entry.
+-- If the last entry of a meter is removed, then only the step (the energy) to this entry is
+-- removed.
 last_gone : (meter : Installed) (e : Entry) (es : List Entry) → AllFollow meter.range meter.opening (e ∷ es)
     → AreMoved meter (e ∷ es) es (step_to meter.range (last_after meter es) e ∷ []) []
 last_gone meter e es h =
@@ -54,7 +55,8 @@ weigh_is : (w : Step → ℕ) (steps : List Step) → weigh w steps ≡ sum_by w
 weigh_is w [] = refl
 weigh_is w (step ∷ steps) = omega (arith, weigh_is w steps, sum_by-cons w step steps)
 
--- The energies of the steps between valid entries add up to the total energy of the meter.
+-- The energies of the steps between valid entries of a meter's journal add up to the total energy
+-- of the meter.
 weigh_total : (meter : Installed) (lines : Journal) → IsWellInstalled meter → AreFitting meter lines
     → weigh (λ step. step.mwh) (steps_in meter lines) ≡ total_in meter lines
 weigh_total meter lines well h = weigh_is (λ step. step.mwh) (steps_in meter lines) ∙ sym (journals_are_kept meter lines well h).sound.sum

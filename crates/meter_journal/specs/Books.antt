@@ -12,8 +12,8 @@ use Rattle.meter_journal.specs.declared.lines.Installed.{Installed}
 use Rattle.meter_journal.specs.Journal.{Journal, entries_of}
 use Rattle.meter_journal.specs.Intervals.{rows_of_steps}
 
--- The opening (first) entry of the meter has a count that the counter can show, and a scale factor
--- from -3 to 3.
+-- States that the opening (first) entry of the meter has a count that the counter can show, and a
+-- scale factor from -3 to 3.
 pub record IsWellInstalled (meter : Installed) : Type 0 where
   pub raw : meter.opening.raw < meter.range
   pub scale : IsScale meter.opening.sf
@@ -34,8 +34,8 @@ steps_after meter es = steps_of meter.range meter.opening es
 abbrev pub verdict_after : Installed → List Entry → Reading → Verdict
 verdict_after meter es reading = verdict_on meter.range meter.ceiling meter.opening es reading
 
--- The entries of a meter obey the rules: each entry may follow the entries before it, and the total
--- energy is within its limit.
+-- States that the entries of a meter obey the rules: each entry may follow the entries before it,
+-- and the total energy is within its limit.
 abbrev pub HasAccount : Installed → List Entry → Type 0
 HasAccount meter es =
     IsAccount meter.range meter.opening es (last_after meter es) (total_after meter es)

@@ -1,4 +1,4 @@
--- The change of a meter's state by a new line of the meter's journal.
+-- Defines how a new line of a meter's journal changes the meter's state.
 use Rattle.std.specs.Prelude.{◌≡◌, ℕ, ◌+◌, ◌%◌, ◌<◌, ◌≤◌, List, ◌∷◌, All, Some, Ok}
 use Rattle.energy_core.specs.declared.entries.Entry.{Entry}
 use Rattle.energy_core.specs.declared.entries.Step.{Step}
@@ -17,16 +17,16 @@ use Rattle.meter_journal.specs.Journal.{Entered, Voided, Journal, Around, entrie
 use Rattle.meter_journal.specs.Lists.{MayGoOn}
 use Rattle.meter_journal.specs.Fitting.{AreFitting}
 
--- The quarter hour of an interval row overlaps the time from the meter's opening entry, which
--- installed the meter, to its last entry. The last entry is later than the opening entry.
+-- States that the quarter hour of an interval row overlaps the time from the meter's opening entry,
+-- which installed the meter, to its last entry. The last entry is later than the opening entry.
 pub record LiesWithin (opened last : ℕ) (row : Share) : Type 0 where
   pub quarter : row.start % INTERVAL_SECONDS ≡ 0
   pub following : opened < row.start + INTERVAL_SECONDS
   pub before : row.start < last
   pub gone_on : opened < last
 
--- Theorem: each interval row (the energy of a quarter hour) of a meter's journal lies between the
--- opening (first) entry and the last valid entry.
+-- Theorem: the quarter hour of each interval row in a meter's journal overlaps the time from the
+-- opening (first) entry to the last valid entry.
 abbrev pub RowsLieWithin : Type 0
 RowsLieWithin = (meter : Installed) (lines : Journal) → IsWellInstalled meter
     → AreFitting meter lines
@@ -42,9 +42,10 @@ VoidsGoNoFurther = (meter : Installed) (lines : Journal) (place : ℕ) → IsWel
 abbrev pub step_on : Installed → Journal → Entry → Step
 step_on meter lines e = step_to meter.range (last_in meter lines) e
 
--- The state of a meter after a new entry was added to its journal. The new entry is the last valid
--- entry, and the energy has grown by the step to it. The fields `joined` and `added` state two ways
--- to add the step's energy, divided by quarter hour into shares, to the interval rows.
+-- States how a new entry that is added to a meter's journal changes the meter's state. The new
+-- entry is the last valid entry, and the energy grows by the step to it. The step's energy is split
+-- into shares, one for each quarter hour. The fields `joined` and `added` state two ways to add the
+-- shares to the interval rows.
 pub record ContinuesJournal (meter : Installed) (lines : Journal) (k : EntryKind) (e : Entry) :
     Type 0 where
   pub may : MayGoOn meter (last_in meter lines) (total_in meter lines) e
@@ -65,8 +66,9 @@ EntriesGoOn = (meter : Installed) (lines : Journal) (k : EntryKind) (e : Entry)
     → IsWellInstalled meter
     → AreFitting meter (Entered k e ∷ lines) → ContinuesJournal meter lines k e
 
--- Adding shares (energies of single quarter hours) to interval rows increases the energy of the
--- rows by that of the shares. Subtracting shares never increases it.
+-- States that adding shares (energies of single quarter hours) to interval rows increases the
+-- energy of the rows by that of the shares. Subtracting shares never increases the energy of the
+-- rows.
 pub record MoveEnergy (shares rows : List Share) : Type 0 where
   pub added : energy_in_rows (with_each shares rows) ≡ energy_in_rows rows + energy_in_rows shares
   pub taken : energy_in_rows (without_each shares rows) ≤ energy_in_rows rows
@@ -76,15 +78,16 @@ pub record MoveEnergy (shares rows : List Share) : Type 0 where
 abbrev pub SharesMoveEnergy : Type 0
 SharesMoveEnergy = (shares rows : List Share) → MoveEnergy shares rows
 
--- The valid entries before the row `around.row` of a meter's journal obey the rules (`HasAccount`).
--- The energies of the steps between these entries add up to their total energy (`IsSound`).
+-- States that the valid entries before the row `around.row` of a meter's journal obey the rules
+-- (`HasAccount`). The energies of the steps between these entries add up to their total energy
+-- (`IsSound`).
 pub record WasKept (meter : Installed) (around : Around) : Type 0 where
   pub account : HasAccount meter (entries_in around.before)
   pub sound : let es = entries_in around.before in
       IsSound meter.range meter.opening es (last_after meter es) (total_after meter es)
 
 -- Theorem: the valid entries before any row of a meter's journal obey the rules (`HasAccount`). The
--- energies of the steps between them add up to their total energy.
+-- energies of the steps between these entries add up to their total energy.
 abbrev pub PlacesWereKept : Type 0
 PlacesWereKept = (meter : Installed) (lines : Journal) (place : ℕ) (around : Around)
     → IsWellInstalled meter

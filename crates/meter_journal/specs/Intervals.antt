@@ -6,8 +6,9 @@ use Rattle.energy_core.specs.declared.entries.Step.{Step}
 use Rattle.interval_core.specs.declared.shares.Share.{Share}
 use Rattle.interval_core.specs.Share.{shares_of}
 
--- An interval row (the energy of a quarter hour), followed by the shares of a later step. A first
--- share in the row's quarter hour is merged into the row.
+-- An interval row (the energy of a quarter hour), followed by the shares (energies by quarter hour)
+-- of a later step. If the first share is in the row's quarter hour, the share is merged into the
+-- row.
 abbrev pub joined : Share → List Share → List Share
 joined row [] = row ∷ []
 joined row (share ∷ shares) =
@@ -16,7 +17,7 @@ joined row (share ∷ shares) =
     else row ∷ share ∷ shares
 
 -- Interval rows followed by the shares of a later step, which are the step's energies by quarter
--- hour. A share in the last row's interval is merged into that row.
+-- hour. If the first share is in the last row's interval, it is merged into that row.
 abbrev pub with_shares : List Share → List Share → List Share
 with_shares [] shares = shares
 with_shares (row ∷ []) shares = joined row shares
@@ -34,7 +35,7 @@ energy_before bound [] = 0
 energy_before bound (row ∷ rows) =
     (if nat_lt row.start bound then row.mwh else 0) + energy_before bound rows
 
--- The interval rows after a share, which is an energy in one quarter hour, is added to the row of
+-- The interval rows that result when a share (an energy in one quarter hour) is added to the row of
 -- its interval. Without such a row, the share becomes the last row.
 abbrev pub with_share : Share → List Share → List Share
 with_share share [] = share ∷ []
@@ -43,8 +44,8 @@ with_share share (row ∷ rows) =
     then record { start = row.start; mwh = row.mwh + share.mwh } ∷ rows
     else row ∷ with_share share rows
 
--- The interval rows after each share of a list, which is an energy in one quarter hour, is added to
--- the row of its interval.
+-- The interval rows that result when each share (an energy in one quarter hour) of a list is added
+-- to the row of its interval.
 abbrev pub with_each : (shares : List Share) → List Share → List Share
 with_each [] rows = rows
 with_each (share ∷ shares) rows = with_each shares (with_share share rows)
@@ -56,18 +57,17 @@ less share row =
     if row.start == share.start then record { start = row.start; mwh = row.mwh - share.mwh }
     else row
 
--- The interval rows after a share, which is an energy in one quarter hour, is subtracted from the
+-- The interval rows that result when a share (an energy in one quarter hour) is subtracted from the
 -- row of its interval.
 abbrev pub without_share : Share → List Share → List Share
 without_share share rows = map (less share) rows
 
--- The interval rows after each share of a list, which is an energy in one quarter hour, is
+-- The interval rows that result when each share (an energy in one quarter hour) of a list is
 -- subtracted from the row of its interval.
 abbrev pub without_each : (shares : List Share) → List Share → List Share
 without_each [] rows = rows
 without_each (share ∷ shares) rows = without_each shares (without_share share rows)
 
--- The shares of all steps of a list, which are the steps' energies by quarter hour, in the order of
--- the steps.
+-- The shares (energies by quarter hour) of all steps of a list, in the order of the steps.
 abbrev pub all_shares : List Step → List Share
 all_shares steps = flat_map shares_of steps

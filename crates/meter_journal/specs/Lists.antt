@@ -1,4 +1,4 @@
--- The entry rows of a meter in a list that begins with the oldest row.
+-- Definitions on the entry rows of a meter in a list that begins with the oldest row.
 use Rattle.std.specs.Prelude.{◌≡◌, ℕ, ◌+◌, ◌≤◌, ◌<◌, List, [], ◌∷◌, reverse, take, length, Option, Some, None, if◌then◌else◌}
 use Rattle.energy_core.specs.declared.limits.TheConstants.{MAX_TOTAL}
 use Rattle.energy_core.specs.declared.entries.Last.{Last}
@@ -14,8 +14,8 @@ use Rattle.meter_journal.specs.Journal.{rolled, row_at}
 abbrev pub latest_first : List EntryRow → List EntryRow
 latest_first rows = reverse rows
 
--- Each row has the sequence number of its index. The oldest row has number 2, because the opening
--- (first) entry has number 1.
+-- States that the rows, the latest first, have consecutive sequence numbers. The oldest row has
+-- number 2, because the opening (first) entry has number 1.
 abbrev pub AreNumbered : List EntryRow → Type 0
 AreNumbered [] = Unit {0}
 AreNumbered (row ∷ rows) = (row.place ≡ length rows + 2) × AreNumbered rows
@@ -41,8 +41,8 @@ abbrev pub rolled_on : Last → List EntryRow → List EntryRow
 rolled_on last [] = []
 rolled_on last (row ∷ rows) = let next = rolled last row in next ∷ rolled_on (following last next) rows
 
--- The entry may follow the counter's state `last`, and the total energy including the entry stays
--- within its limit.
+-- States that the entry may follow the counter's state `last`, and that the total energy including
+-- the entry stays within its limit.
 pub record MayGoOn (meter : Installed) (last : Last) (total : ℕ) (e : Entry) : Type 0 where
   pub booked : total ≤ MAX_TOTAL
   pub raw : last.raw < meter.range
@@ -50,8 +50,8 @@ pub record MayGoOn (meter : Installed) (last : Last) (total : ℕ) (e : Entry) :
   pub follows : Follows meter.range last e
   pub within : total + energy_of meter.range last e ≤ MAX_TOTAL
 
--- `found` is the row with the sequence number `place` in a list, together with the rows before it
--- and the next valid row.
+-- States that `found` is the row with the sequence number `place` in a list, together with the rows
+-- before it and the next valid row.
 abbrev pub IsFound : List EntryRow → (place : ℕ) → FoundRow → Type 0
 IsFound rows place found =
     row_at place (latest_first rows)

@@ -37,19 +37,19 @@ unvoided opening whole (Entered k e ∷ lines) =
 unvoided opening whole (Held reading cause ∷ lines) = unvoided opening whole lines
 unvoided opening whole (Voided place ∷ lines) = unvoided opening whole lines
 
--- The rules accept the entry of each valid row after the entries of the valid rows before it.
+-- States that the rules accept the entry of each valid row after the entries of the valid rows
+-- before it.
 abbrev pub AllStillFit : Installed → List EntryRow → Type 0
 AllStillFit meter [] = Unit {0}
 AllStillFit meter (row ∷ rows) =
     (row.stands ≡ true → EntryFits meter (entries_in rows) row.kind row.entry)
     × AllStillFit meter rows
 
--- The journal of a meter that only records the entries of a list of rows, without voids
--- (cancellations).
+-- The journal of a meter that records the entry of each row of a list, and has no other lines.
 abbrev pub entering : List EntryRow → Journal
 entering rows = map (λ row. Entered row.kind row.entry) rows
 
--- The journal (history) of a meter that only records the valid entries of the full journal, without
--- voids (cancellations).
+-- The journal (history) of a meter that records the valid entries of the full journal, and has no
+-- other lines.
 abbrev pub standing_alone : (opening : Last) → Journal → Journal
 standing_alone opening lines = entering (standing (rows_of opening lines))

@@ -1,5 +1,5 @@
--- Journals whose readings come from an honest meter. Its true counts over time are a true run,
--- whose items are pairs of a time and a true count.
+-- Defines journals whose readings come from an honest meter. Its true counts over time are a true
+-- run, whose items are pairs of a time and a true count.
 use Rattle.std.specs.Prelude.{◌≡◌, ℕ, ℤ, ◌≤◌, ◌%◌, nat_le, true, List, [], ◌∷◌, map, Option, Some, None, if◌then◌else◌}
 use Rattle.std.specs.List.{filter_map, cons_option}
 use Rattle.energy_core.specs.declared.entries.Last.{Last}
@@ -20,7 +20,7 @@ reading_by sf (entry.Step at raw rolls) = Some (record { at = at; raw = raw; sf 
 reading_by sf (entry.Change at before after new) = None
 
 -- The readings that were valid directly after the last void (cancellation), followed by all later
--- readings, also rejected ones. The latest reading comes first.
+-- readings, including rejected readings. The latest reading comes first.
 abbrev pub latest_readings : (opening : Last) → Journal → List Reading
 latest_readings opening [] = []
 latest_readings opening (Entered k e ∷ lines) =
@@ -37,17 +37,17 @@ held_since (Entered k e ∷ lines) = held_since lines
 held_since (Held reading cause ∷ lines) = reading ∷ held_since lines
 held_since (Voided place ∷ lines) = []
 
--- Each entry of the meter's journal is an accepted reading. The journal may also contain rejected
--- readings and voids (cancellations).
+-- States that each entry of the meter's journal is an accepted reading. The journal may also
+-- contain rejected readings and voids (cancellations).
 abbrev pub AreReadings : Journal → Type 0
 AreReadings [] = Unit {0}
 AreReadings (Entered k e ∷ lines) = (is_reading k ≡ true) × AreReadings lines
 AreReadings (Held reading cause ∷ lines) = AreReadings lines
 AreReadings (Voided place ∷ lines) = AreReadings lines
 
--- The readings of the journal are those of an honest meter that is polled often enough (a true
--- run). The opening (first) entry, the readings that were valid directly after the last void
--- (cancellation), and all later readings are the items of the run.
+-- States that the readings of the journal are those of an honest meter that is polled often enough
+-- (a true run). The opening (first) entry, the readings that were valid directly after the last
+-- void (cancellation), and all later readings are the items of the run.
 pub record ShowsTrueRun (meter : Installed) (lines : Journal) (first : Item) (items : List Item) :
     Type 0 where
   pub readings_alone : AreReadings lines
@@ -57,7 +57,7 @@ pub record ShowsTrueRun (meter : Installed) (lines : Journal) (first : Item) (it
   pub often : IsReadOftenEnough meter.range meter.ceiling meter.opening.sf first items
 
 -- The true energy up to the last item (a time and a true count) of a run at or before the time
--- `bound`, or 0 without such an item.
+-- `bound`. It is 0 without such an item.
 abbrev pub advance_to : ℤ → Item → List Item → (bound : ℕ) → ℕ
 advance_to sf first [] bound = 0
 advance_to sf first (item ∷ items) bound =
@@ -71,7 +71,7 @@ advance_past sf first (item ∷ items) bound =
     if nat_le bound (newest first items).at then advance_past sf first items bound
     else advance sf first item
 
--- The meter's journal records the true energy of a run. No reading after the last void
+-- States that the meter's journal records the true energy of a run. No reading after the last void
 -- (cancellation) was rejected, and the steps and the total energy are the true ones. The energy
 -- before an interval's start lies between the true energies at the two items around this start.
 pub record IsKeptTruly (meter : Installed) (lines : Journal) (first : Item) (items : List Item) :

@@ -1,4 +1,4 @@
--- The change of a meter's state when an entry is voided (cancelled).
+-- Defines how the voiding (cancellation) of an entry changes a meter's state.
 use Rattle.std.specs.Prelude.{◌≡◌, ℕ, ◌+◌, ◌==◌, ◌≤◌, nat_lt, Bool, false, List, [], ◌∷◌, ◌++◌, map, filter, sum_by, All, Option, Some, None, is_some, if◌then◌else◌}
 use Rattle.std.specs.Option.{option_map}
 use Rattle.energy_core.specs.declared.entries.Last.{Last}
@@ -17,14 +17,15 @@ use Rattle.meter_journal.specs.Fitting.{AreFitting}
 abbrev pub last_before : (opening : Last) → Around → Last
 last_before opening around = last_of opening (entries_in around.before)
 
--- True if `row` is the next valid row `next`. False if no next valid row exists.
+-- True if `row` has the sequence number of the next valid row `next`. False if no next valid row
+-- exists.
 abbrev pub is_next : (next : Option EntryRow) → EntryRow → Bool
 is_next None row = false
 is_next (Some next) row = row.place == next.place
 
--- A row after the entry with the sequence number `place` is voided (cancelled). The voided entry's
--- row is marked. The next valid row has the rollovers computed from the counter's state `before`.
--- All other rows are unchanged.
+-- The new state of a row when the entry with the sequence number `place` is voided (cancelled). The
+-- voided entry's row is marked. The next valid row has the rollovers computed from the counter's
+-- state `before`. All other rows are unchanged.
 abbrev pub changed_by : (place : ℕ) → (next : Option EntryRow) → (before : Last) → EntryRow
     → EntryRow
 changed_by place next before row =
@@ -61,17 +62,17 @@ abbrev pub rows_until : (opened last : ℕ) → List Share → List Share
 rows_until opened last rows =
     if last == opened then [] else filter (λ row. nat_lt row.start last) rows
 
--- The shares (energies of quarter hours) can be subtracted from the interval rows in turn: each row
--- has at least the energy that is subtracted.
+-- States that the shares (energies of quarter hours) can be subtracted from the interval rows one
+-- after another. Each row then has at least the energy that is subtracted from it.
 abbrev pub AreTherein : (shares : List Share) → List Share → Type 0
 AreTherein [] rows = Unit {0}
 AreTherein (share ∷ shares) rows =
     All (λ row. row.start ≡ share.start → share.mwh ≤ row.mwh) rows
     × AreTherein shares (without_share share rows)
 
--- When an entry is voided (cancelled), the energies of the steps to and from it are removed, and
--- that of the step across it is added. All other steps are unchanged. Each of these steps can be
--- divided among its quarter hours.
+-- States that, when an entry is voided (cancelled), the energies of the steps to and from it are
+-- removed. The energy of the step that then connects its neighbors is added. All other steps are
+-- unchanged. Each removed or added step can be divided among its quarter hours.
 pub record ExchangesSteps (meter : Installed) (lines : Journal) (place : ℕ) (around : Around) : Type
     0 where
   pub staying : ℕ
@@ -80,9 +81,9 @@ pub record ExchangesSteps (meter : Installed) (lines : Journal) (place : ℕ) (a
   pub out : All IsShareable (steps_out meter around)
   pub put : All IsShareable (steps_put meter around)
 
--- When an entry is voided (cancelled), the energies by quarter hour of the removed steps are
--- subtracted from the interval rows. Those of the added step are added. Rows that no step touches
--- any more are removed.
+-- States that, when an entry is voided (cancelled), the energies by quarter hour of the removed
+-- steps are subtracted from the interval rows. Those of the added step are added. Rows that no step
+-- touches any more are removed.
 pub record ExchangesShares (meter : Installed) (lines : Journal) (place : ℕ) (around : Around) :
     Type 0 where
   pub therein : AreTherein (all_shares (steps_out meter around)) (interval_rows meter lines)
@@ -92,9 +93,10 @@ pub record ExchangesShares (meter : Installed) (lines : Journal) (place : ℕ) (
       ≡ rows_until meter.opening.at (last_in meter (Voided place ∷ lines)).at
       (with_each (all_shares (steps_put meter around)) rest)
 
--- The entry with the sequence number `place` is voided (cancelled). Only its row and the row of the
--- next valid entry change. The last valid entry stays the same unless it is the voided entry. In
--- that case, the valid entry before the voided entry becomes the last.
+-- States how voiding (cancelling) the entry with the sequence number `place` changes a meter's
+-- state. Only its row and the row of the next valid entry change. The last valid entry stays the
+-- same unless it is the voided entry. In that case, the valid entry before the voided entry becomes
+-- the last.
 pub record IsVoided (meter : Installed) (lines : Journal) (place : ℕ) (around : Around) : Type 0
   where
     pub rows : rows_of meter.opening (Voided place ∷ lines)

@@ -20,8 +20,8 @@ pub fn voids_go_no_further()
     ensures { VoidsGoNoFurther }
 {}
 
-/// Theorem: a new entry follows the last valid entry. The counter, the energy and the interval rows
-/// (energies by quarter hour) advance by the energy up to the new entry.
+/// Theorem: a new entry that the rules accept becomes the last valid entry. The counter, the energy
+/// and the interval rows (energies by quarter hour) advance by the energy up to the new entry.
 pub fn entries_go_on()
     ensures { EntriesGoOn }
 {
@@ -29,8 +29,8 @@ pub fn entries_go_on()
 }
 
 /// Theorem: voiding (cancelling) an entry changes only its row and the row of the next valid entry.
-/// The energies to and from the voided entry are subtracted from the interval rows (energies by
-/// quarter hour). The energy between its neighbors is added.
+/// The energies of the steps to and from the voided entry are subtracted from the interval rows
+/// (energies by quarter hour). The energy between its neighbors is added.
 pub fn voids_change_two_rows()
     ensures { VoidsChangeTwoRows }
 {

@@ -37,10 +37,10 @@ pub fn interval_rows_add_up()
     accounts_add_up();
 }
 
-/// Theorem: suppose that the readings that were valid after the last void (cancellation) and all
-/// later readings come from an honest meter that is polled often enough. Then no later reading was
-/// rejected, and the energy is the true energy. The energy before the start of any interval is also
-/// true, except for the step in progress at that start.
+/// Theorem: consider the readings that were valid after the last void (cancellation) and all later
+/// readings. Suppose that they come from an honest meter that is polled often enough. Then no later
+/// reading was rejected, and the journal records the true energy. The energy before the start of
+/// any interval is also true, except for the step in progress at that start.
 pub fn truth_is_kept()
     ensures { TruthIsKept }
 {

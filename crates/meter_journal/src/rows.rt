@@ -1,4 +1,4 @@
-//! The entry rows of a meter, the oldest row first.
+//! Functions on lists of a meter's entry rows, the oldest row first.
 ghost use Rattle.std.specs.Prelude.{◌≡◌, ◌+◌, ◌≤◌, ◌<◌, ◌++◌, length, take, drop, find, IfSome};
 ghost use Rattle.std.specs.Prelude.{IfNone, IsTrue, None};
 ghost use Rattle.energy_core.specs.Account.{last_of};

@@ -48,8 +48,8 @@ each_listed : {X : Type 0} (P : Fact → Type 0) (f : X → Fact) → ((x : X) �
 each_listed P f h [] = tt
 each_listed P f h (x ∷ xs) = (h x, each_listed P f h xs)
 
--- True if the property `P` holds for each record that a command may add, except a device record. A
--- record with a timestamp needs `P` only if `T` holds for the timestamp.
+-- True if the property `P` holds for each record that a command may add, except a device record.
+-- For a record with a timestamp, `P` is required only if `T` holds for the timestamp.
 pub record Allows (P : Fact → Type 0) (T : ℕ → Type 0) : Type 0 where
   pub list : (l : DeviceList) → P (fact.List l)
   pub register : (r : Register) → P (fact.Register r)
@@ -62,7 +62,8 @@ abbrev pub adds_device : Command → Bool
 adds_device (command.AddDevice c) = true
 adds_device _ = false
 
--- True if a command is no reading by hand, or if `T` holds for the time of the reading by hand.
+-- True if a command is no manual reading, or if the time of its manual reading has the property
+-- `T`.
 abbrev pub ReadsAt : (ℕ → Type 0) → (at : ℕ) → Command → Type 0
 ReadsAt T at (command.Manual c) = T (read_at at c.at)
 ReadsAt T at _ = Unit {0}
@@ -97,8 +98,9 @@ polls_each P T number at spans None h now = tt
 polls_each P T number at spans (Some slot) h now =
     each_listed P (poll_by at slot.device) (λ send. h.poll _ now) (sends_at number at slot.device slot.present spans)
 
--- If `P` holds for each kind of record whose timestamp has the property `T`, then `P` holds for
--- each record that a command adds. The command's timestamps must have the property `T`.
+-- If `P` holds for all records whose timestamps have the property `T`, then `P` holds for each
+-- record that a command adds. The command's timestamps must have the property `T`, and its device
+-- record the property `P`.
 pub command_each : (P : Fact → Type 0) (T : ℕ → Type 0) (number at : ℕ) (slots : List Slot) (facts : List Fact) (c : Command) → Allows P T
     → T at → ReadsAt T at c → ((d : Device) → adds_device c ≡ true → P (fact.Device d)) → Each P (added_by number at slots facts c)
 command_each P T number at slots facts (command.AddDevice c) h now reads device = each_map P fact.Device (λ d. device d refl) (device_by c)

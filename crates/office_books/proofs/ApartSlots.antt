@@ -90,7 +90,8 @@ apart-push_by (slot ∷ slots) new h none =
 pub apart-push : (slots : List Slot) (new : Slot) → AreApart slots → slot_of slots (Some new.device.name) ≡ None → AreApart (slots ++ new ∷ [])
 apart-push slots new h none = apart-push_by slots new h (none_found new.device.name slots none)
 
--- If an event connects no device, then it connects no device that is already connected.
+-- An event that connects no device satisfies `AreFree`: no device that the event connects was
+-- connected before.
 pub free_other : (e : Event) → ((device : Device) → connects e device ≡ false) → (slots : List Slot) → AreFree e slots
 free_other e never [] = tt
 free_other e never (slot ∷ slots) = ((λ h. absurd (both_ways _ (never slot.device) h)), free_other e never slots)

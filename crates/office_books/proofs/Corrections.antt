@@ -28,7 +28,8 @@ use Rattle.office_books.specs.Lawful.{AreLawful}
 use Rattle.office_books.specs.Laws.{MetersAreKept}
 use Rattle.office_books.proofs.LawfulReadings.{is_open, entered_fits}
 
--- True if a command's entry has no fault when the entry is added to the open meter.
+-- True if an entry that a command makes has no fault when it is added to the open meter of the
+-- command's accounting register.
 pub record IsFaultless (at : ℕ) (c : Command) (row : Option Installation) : Type 0 where
   pub negative : makes_fault at fault.NegativeStep c row ≡ false
   pub later : makes_fault at fault.NotLater c row ≡ false
@@ -36,7 +37,8 @@ pub record IsFaultless (at : ℕ) (c : Command) (row : Option Installation) : Ty
   pub full : makes_fault at fault.TotalFull c row ≡ false
   pub below : makes_fault at fault.NotBelowRange c row ≡ false
 
--- The records after a command's entry is added to the open meter.
+-- The records after the entry that a command makes is added for the open meter of the command's
+-- accounting register.
 abbrev entered : (at : ℕ) → Command → List Fact → Option Installation → List Fact
 entered at c facts row = reverse (option_to_list (option_and_then (made_on at c) row)) ++ facts
 

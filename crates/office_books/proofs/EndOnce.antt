@@ -54,8 +54,8 @@ once_on facts slots h n =
     let l = numbered_once n (polls_in facts) h.numbered in
     omega arith
 
--- Suppose that mapping `xs` with `f` yields `ys`. This still holds after an element is added to
--- `xs` and its image to `ys`.
+-- If `f` maps `xs` to `ys`, it still does after an element is added to `xs` and its image to `ys`.
+-- The same holds if nothing is added.
 filter-map_step : {X Y : Type 0} (f : X → Y) (b : Bool) (x : X) (xs : List X) (ys : List Y) → map f xs ≡ ys → map f (cond b (x ∷ xs) xs) ≡ cond b (f x ∷ ys) ys
 filter-map_step f true x xs ys e = ap (λ zs. f x ∷ zs) e
 filter-map_step f false x xs ys e = e
@@ -130,8 +130,8 @@ agree_same laws number at spans e facts after slots h free adds =
     agree_after laws number at spans e facts after slots [] h free adds refl
     (nothing_over _ (over-after laws number at spans e slots h.over)) (nothing_apart _ (apart-map (slot_after number at spans e) (device-after number at spans e) slots h.apart))
 
--- Suppose that an event adds no record and ends no poll. Then the polls and outcomes in the records
--- change as those on the Modbus sessions do.
+-- If an event starts and ends no poll and adds no record, the records gain the polls and outcomes
+-- that the Modbus sessions gain: none.
 adds_none : (number at : ℕ) (e : Event) (facts : List Fact) (slots : List Slot) → AreNumbered (polls_in facts) → settled_on_all number at e slots ≡ [] → NoneNew number at e slots
     → Adds number at [] e slots facts facts
 adds_none number at e facts slots numbered quiet none = record {
@@ -140,8 +140,8 @@ adds_none number at e facts slots numbered quiet none = record {
   ended = same_is _ _ (ap (λ s. map as_end s ++ recorded facts) (sym quiet));
 }
 
--- Suppose that an event adds only the outcomes and readings of the polls that it ends. Then the
--- polls and outcomes in the records change as those on the Modbus sessions do.
+-- Suppose that an event starts no poll, and adds to the records only the outcomes and readings of
+-- the polls that it ends. Then it satisfies `Adds`: the records change like the Modbus sessions.
 adds_settled : (number at : ℕ) (e : Event) (facts : List Fact) (slots : List Slot) → AreNumbered (polls_in facts) → NoneNew number at e slots → Adds number at [] e slots facts (with_settled number at e slots facts)
 adds_settled number at e facts slots numbered none =
     let P : List Poll → Type 0 = AreNumbered in
@@ -232,8 +232,8 @@ agree_commanded laws at slots facts c h new =
     agree_same laws (next_poll facts) at (spans_by facts c) (event.Command c) facts (commanded at slots facts c) slots h
     (free_other (event.Command c) (λ d. refl) slots) (command_agrees at slots facts c h)
 
--- If the added records concern no poll, such as a stored response, then the recorded polls still
--- match the polls on the Modbus sessions.
+-- If no added record concerns a poll, then the recorded polls still match the polls on the Modbus
+-- sessions. A stored response is an example of such a record.
 agree_quiet : (added facts : List Fact) (slots : List Slot) → Agree facts slots → AreQuiet added → Agree (reverse added ++ facts) slots
 agree_quiet added facts slots h quiet =
     let P : List Poll → Type 0 = AreNumbered in

@@ -129,8 +129,8 @@ recorded-with_settled number at e (slot ∷ slots) facts =
     (IsPermutation-trans _ _ _ (exchanged (map as_end later) (map as_end here) (recorded facts))
     (same_is _ _ (sym (append_assoc (map as_end here) (map as_end later) (recorded facts)) ∙ ap (λ ends. ends ++ recorded facts) (sym (map-append as_end here later))))))
 
--- After an outcome is recorded, it is the first outcome of its own poll. The outcomes of other
--- polls are unchanged.
+-- After an outcome of a poll is recorded, it is first in the list of this poll's outcomes. The
+-- lists of other polls are unchanged.
 ends_step : (b : Bool) (end : EndedPoll) (ends : List EndedPoll) (os : List Outcome) → map (λ e. e.outcome) ends ≡ os
     → map (λ e. e.outcome) (cond b (end ∷ ends) ends) ≡ cons_option (if b then Some end.outcome else None) os
 ends_step true end ends os h = ap (λ xs. end.outcome ∷ xs) h

@@ -58,7 +58,7 @@ lost_shown ((p, None) ∷ rs) =
     (IsPermutation-sym _ _ (IsPermutation-middle (ends_in (shown false rs)) (lost_end p.number) (map lost_end (waiting_in (shown false rs)))))
 lost_shown ((p, Some s) ∷ rs) = IsPermutation-cons (as_end (p.number, s)) _ _ (lost_shown rs)
 
--- The pending polls of a Modbus session equal the polls of the session without an outcome.
+-- The pending polls of a Modbus session are exactly the session's polls that have no outcome.
 pub waiting_on : (device : Device) (events : List session.Event) → waiting_in (polls_on device false events) ≡ map (λ p. p.number) (pending device.timeout events)
 unfolding pending
 waiting_on device events = waiting_shown (results device.timeout [] events)
@@ -120,8 +120,8 @@ numbers_more laws device ended before h =
     (IsPermutation-trans _ _ _ (more_of (numbers_in new) (numbers_in old) (number_by h) (numbers_in rest) (same_is _ _ (numbers-push_on laws device before h)))
     (same_is _ _ (ap (λ ns. ns ++ number_by h) (sym (numbers_both old rest)))))
 
--- If a list is extended twice, then the result is a permutation of one extension by all added
--- elements.
+-- Extending a list by some elements and then by others yields a permutation of the list that is
+-- extended once by all of these elements.
 grown : {X : Type 0} (end middle start first later : List X) → IsPermutation end (middle ++ later) → IsPermutation middle (start ++ first)
     → IsPermutation end (start ++ (first ++ later))
 grown end middle start first later p q =
@@ -222,8 +222,7 @@ numbers_if : (laws : SessionLaws) (number at : ℕ) (spans : List ReadSpan) (e :
 numbers_if laws number at spans e slot true free = same_is _ _ (connected_numbers number at spans e slot.device slot.ended slot.present (free refl))
 numbers_if laws number at spans e slot false free = numbers_reached laws number at spans e slot.device slot.ended slot.present
 
--- True if the event connects only devices without a present session, which means devices that are
--- not connected yet.
+-- True if every device that the event connects has no present session, so it is not connected yet.
 abbrev pub AreFree : Event → List Slot → Type 0
 AreFree e [] = Unit {0}
 AreFree e (slot ∷ slots) = (connects e slot.device ≡ true → slot.present ≡ None) × AreFree e slots

@@ -1,5 +1,5 @@
--- Examples of queries by time span, at an accounting register (an energy counter) with two
--- consecutive meters.
+-- Examples of queries by time span, for an accounting register (an energy counter) at which two
+-- meters were installed, one after the other.
 use Rattle.std.proofs.Common.{◌≡◌, ℕ, pos, List, [], ◌∷◌, true, false, refl}
 use Rattle.energy_core.specs.declared.entries.Last.{Last}
 use Rattle.energy_core.specs.declared.entries.Entry.TheVariants as entry
@@ -71,8 +71,8 @@ of_the_register : rows_within (Between 1800 9000) (rows_of_register facts main) 
 unfolding unit_of
 of_the_register = refl
 
--- The expected list of the meter's entries by sequence number. The list includes the voided
--- (cancelled) entry, marked as void.
+-- The expected entries of the meter, and examples that list them by sequence number. The list
+-- includes the voided (cancelled) entry, marked as void.
 abbrev opened : Last
 opened = record { at = 1000; raw = 5000; sf = pos 0 }
 

@@ -12,14 +12,15 @@ one_more : {X : Type 0} (p : X → Bool) (xs : List X) (i : ℕ) (x : X) → i <
 one_more p xs i x less is =
     ap (filter p) (take_more xs i x less ∙ ap (λ y. take i xs ++ y ∷ []) (sym is)) ∙ filter-append p (take i xs) (x ∷ [])
 
--- If the next element passes the test, the loop appends it to the result.
+-- If the next element passes the test of a filter, the filter's loop appends the element to the
+-- result.
 pub taken : {X : Type 0} (p : X → Bool) (xs : List X) (i : ℕ) (x : X) (ys more : List X) → i < length xs → x ≡ get_or xs i x → p x ≡ true
     → ys ≡ filter p (take i xs) → more ≡ ys ++ x ∷ [] → more ≡ filter p (take (i + 1) xs)
 taken p xs i x ys more less is passes so_far came =
     let one : cond (p x) (x ∷ []) [] ≡ x ∷ [] = cond-true _ _ _ passes in
     came ∙ ap (λ zs. zs ++ x ∷ []) so_far ∙ ap (λ zs. filter p (take i xs) ++ zs) (sym one) ∙ sym (one_more p xs i x less is)
 
--- If the next element fails the test, the loop leaves the result unchanged.
+-- If the next element fails the test of a filter, the filter's loop leaves the result unchanged.
 pub passed_by : {X : Type 0} (p : X → Bool) (xs : List X) (i : ℕ) (x : X) (ys more : List X) → i < length xs → x ≡ get_or xs i x → p x ≡ false
     → ys ≡ filter p (take i xs) → more ≡ ys → more ≡ filter p (take (i + 1) xs)
 passed_by p xs i x ys more less is fails so_far stays =

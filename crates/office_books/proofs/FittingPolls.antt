@@ -194,8 +194,8 @@ event_fits law past ends at (event.Asked asked) p h =
     (all_quiet_fit (reply_by at asked) (reverse added ++ facts) (quiet_reply at asked)
     (command_fits at (slots_of past) facts asked.command (same_devices past) few h))
 
--- After all accepted events, the rules accept each poll and each outcome after the earlier records.
--- The premises are that Modbus sessions end only pending polls, and that each poll ends once.
+-- If Modbus sessions end only pending polls and each poll ends once, then after any accepted
+-- events, the rules accept each poll and each outcome.
 pub polls_fit : SettlesPending → ((history : History) → AreAccepted history → PollsEndOnce history) → (history : History) → AreAccepted history
     → PollsFit (facts_of history)
 polls_fit law once [] h = tt

@@ -159,8 +159,8 @@ over_by_now law facts at now (o ∷ os) h latest over = (
   over_by_now law facts at now os h latest over.1,
 )
 
--- The openings (installation records) of the meters at an accounting register (an energy counter).
--- The latest opening comes first.
+-- The openings (installation records) of all meters that were installed at an accounting register
+-- (an energy counter). The latest opening comes first.
 abbrev pub openings_at : List Fact → (register : List ℕ) → List Opening
 openings_at facts register = filter (λ o. same o.register register) (openings_in facts)
 
@@ -179,8 +179,8 @@ ended_where_free facts o h =
       | inr e ↦ absurd (let s : Some (installation_of facts o) ≡ None = sym (cond-false _ _ _ e) ∙ h in cc)
     ]
 
--- If no meter is open at an accounting register (an energy counter), all meters at the register are
--- closed.
+-- If an accounting register (an energy counter) has no open meter, then all meters that were
+-- installed at the register are closed.
 all_over : VoidsGoNoFurther → (facts : List Fact) (register : List ℕ) (now : ℕ) (os : List Opening) → AreLawful facts → latest_in facts ≤ now
     → open_at facts register ≡ None → openings_at facts register ≡ os → InTurn facts os → AllOver facts now os
 all_over law facts register now [] h latest free is turn = tt

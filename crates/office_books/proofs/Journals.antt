@@ -112,7 +112,8 @@ installed_fits (fact.Poll p ∷ facts) o h there = installed_fits facts o h.1 th
 installed_fits (fact.Outcome e ∷ facts) o h there = installed_fits facts o h.1 there
 installed_fits (fact.Reply r ∷ facts) o h there = installed_fits facts o h.1 there
 
--- If a meter is installed, then the count and the scale factor at its installation are in range.
+-- If a meter is installed, then the counter value and the scale factor at its installation are in
+-- range.
 pub well : (facts : List Fact) (o : Opening) → AreLawful facts → IsInstalled facts o → IsWellInstalled (installed o)
 well [] o h there = absurd (cc)
 well (fact.Device d ∷ facts) o h there = well facts o h.1 there

@@ -45,7 +45,8 @@ same_cause_itself cause.TooFast = refl
 same_cause_itself cause.TotalFull = refl
 same_cause_itself cause.NotBelowRange = refl
 
--- If a verdict rejects a reading for no cause, then the verdict accepts the reading.
+-- If a verdict on a reading is not a rejection for any of the causes, then the verdict accepts the
+-- reading.
 accepts : (v : Verdict) → ((why : Cause) → is_held_for why (Some v) ≡ false) → (rolls : ℕ) × (step : ℕ) × (v ≡ verdict.Accepted rolls step)
 accepts (verdict.Accepted rolls step) h = (rolls, step, refl)
 accepts (verdict.Held c) h = absurd (let e : true ≡ false = sym (same_cause_itself c) ∙ h c in cc)

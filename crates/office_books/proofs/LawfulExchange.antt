@@ -73,7 +73,7 @@ record IsGood (facts : List Fact) (m : List ℕ) (range raw ceiling : ℕ) (sf :
   scaled : (negsuc 2 ≤ℤ sf) × (sf ≤ℤ pos 3)
   limited : (1 ≤ ceiling) × (ceiling ≤ 1000000000)
 
--- True if an exchange of meters closes the old meter without the fault `why`.
+-- True if an exchange of meters closes the old meter without the given fault.
 abbrev NoFault : (at : ℕ) → Exchange → Option Installation → TermFault → Type 0
 NoFault at c row why = makes_fault at why (command.Exchange c) row ≡ false
 

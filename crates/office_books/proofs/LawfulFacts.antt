@@ -114,7 +114,7 @@ command_fits law past at (command.StartRound c) h latest planned accepted time t
     polls_fit (slots_of past) (facts_of past) at (spans_by (facts_of past) (command.StartRound c)) c.device (slot_of (slots_of past) c.device)
     (same_devices past) h time.within refl (is_few past at (command.StartRound c) taken.few)
 
--- If a reading by hand is accepted, then its time is not later than the time of the command.
+-- If a manual reading is accepted, then its time is not later than the time of the command.
 read_in_time : (at : ℕ) (given : Option ℕ) → is_later at given ≡ false → read_at at given ≤ at
 read_in_time at None h = omega arith
 read_in_time at (Some earlier) h = ltb-false at earlier h
@@ -162,8 +162,8 @@ after_event settles law past at (event.Command c) accepted planned pending h lat
 after_event settles law past at (event.Asked asked) accepted planned pending h latest kept time =
     asked_kept law past at asked h latest planned accepted
 
--- The records after any accepted events follow the rules. The premises are that Modbus sessions end
--- only pending polls, that each poll ends once, and that the energy of meters balances.
+-- If Modbus sessions end only pending polls, each poll ends once and the energy of meters balances,
+-- the records after any accepted events are lawful.
 kept : SettlesPending → ((history : History) → AreAccepted history → PollsEndOnce history) → MetersAreKept → (history : History)
     → AreAccepted history → ListsArePlanned history → AreKept (latest_of history) (facts_of history)
 kept settles once law [] h planned = record { lawful = tt; latest = omega arith }

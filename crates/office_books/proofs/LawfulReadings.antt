@@ -1,5 +1,5 @@
--- Lemmas that the rules accept the recorded result of a reading, and an entry by hand, at an open
--- meter.
+-- Lemmas that the rules accept the records of an open meter: an accepted reading, a rejected
+-- reading, and a manual entry.
 use Rattle.std.proofs.Common.{◌≡◌, ℕ, ℤ, ◌≤◌, nat_lt, Bool, true, false, cond, ◌||◌, List, ◌∷◌, ◌++◌, reverse, refl, sym, ap, subst, Option, Some, None, arith}
 use Rattle.std.specs.List.{AllByRecursion}
 use Rattle.std.specs.Option.{option_map, option_and_then, option_to_list, is_some}
@@ -34,7 +34,7 @@ use Rattle.office_books.specs.Refusals.{refuses, reasons, refusal_of, makes_faul
 use Rattle.office_books.specs.Lawful.{AreLawful}
 use Rattle.office_books.proofs.FoundOpenings.{found_installed}
 
--- True if `row` is the state of the open meter at an accounting register (an energy counter). The
+-- True if `row` is the state of the open meter of an accounting register (an energy counter). The
 -- meter is the latest at the register, a search for its name finds its opening (first entry), and
 -- it was not closed.
 pub record IsOpen (facts : List Fact) (register : List ℕ) (row : Installation) : Type 0 where
@@ -84,7 +84,7 @@ reading_fits facts register poll r (Some row) h started timely e =
     subst (λ (x : Installation). AreLawful (with_reading poll r (Some x) facts)) open_there.row_is
     (by_verdict facts open_there.opening poll r (judgement (installation_of facts open_there.opening) r) h open_there.installed open_there.unended started timely refl)
 
--- Lemmas about entries by hand at an open meter.
+-- Lemmas about manual entries of an open meter.
 
 pub entered_fits : (facts : List Fact) (o : Opening) (e : Entry)
     → AllByRecursion (λ why. entering.refuses o.range (installation_of facts o).total (installation_of facts o).last e why ≡ false) entering.faults
@@ -97,7 +97,7 @@ entered_fits facts o e all =
       entered = ap (entering.answered o.range l e) (find-none (entering.refuses o.range (installation_of facts o).total l e) entering.faults all);
     }
 
--- If an entry by hand has no fault at the open meter, then the records with the entry still follow
+-- If a manual entry has no fault for the open meter, then the records with the entry still follow
 -- the rules (`AreLawful`). Without an open meter, no entry is added.
 manual_row : (facts : List Fact) (at : ℕ) (c : Manual) (register : List ℕ) (row : Option Installation) → AreLawful facts → open_at facts register ≡ row
     → read_at at c.at ≤ moment_limit
@@ -116,7 +116,7 @@ manual_row facts at c register (Some row) h is timely a b d e f =
     subst (λ (y : Installation). AreLawful (fact.Entry (record { meter = y.opening.meter; kind = kind.Manual; entry = x }) ∷ facts)) open_there.row_is
     ((record { opening = o; there = open_there.installed; fits = (open_there.unended, entered_fits facts o x own) }, timely), h)
 
--- If a reading by hand is accepted, then its time does not exceed the greatest timestamp.
+-- If a manual reading is accepted, then its time does not exceed the greatest timestamp.
 read_in_time : (at : ℕ) (given : Option ℕ) → is_later at given ≡ false → at ≤ moment_limit → read_at at given ≤ moment_limit
 read_in_time at None h timely = timely
 read_in_time at (Some earlier) h timely = let before : earlier ≤ at = ltb-false at earlier h in omega (arith, before, timely)
@@ -137,7 +137,7 @@ manual_by past at raw rolls given (Some register) h taken =
     manual_row facts at c register (open_at facts register) h refl (read_in_time at given later.1 (ltb-false moment_limit at limit.0))
     four.0 four.1.0 four.1.1.0 four.1.1.1.0 beyond.1
 
--- If an entry by hand is accepted, then the records with the entry still follow the rules
+-- If a manual entry is accepted, then the records with the entry still follow the rules
 -- (`AreLawful`).
 pub manual_lawful : (past : History) (at : ℕ) (c : Manual) → AreLawful (facts_of past) → refusal_of past at (event.Command (command.Manual c)) ≡ None
     → AreLawful (facts_of (Fed at (event.Command (command.Manual c)) ∷ past))

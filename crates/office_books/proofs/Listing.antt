@@ -47,7 +47,8 @@ module _ (from most : ℕ) (before : List MeterEntry) (e : MeterEntry) where
     | inr is ↦ too_early is
   ]
 
--- Each further row adds one entry to the end of the list of entries.
+-- The first `i + 1` rows, listed with the latest first, are the row at index `i`, followed by the
+-- first `i` rows with the latest first.
 
 pub turned_rows : (rows : List EntryRow) (i : ℕ) (d : EntryRow) → i < length rows → latest_first (take (i + 1) rows) ≡ get_or rows i d ∷ latest_first (take i rows)
 turned_rows rows i d lt = ap reverse (take_more rows i d lt) ∙ reverse-append (take i rows) (get_or rows i d ∷ [])

@@ -1,4 +1,4 @@
--- Lookups by name in lists of devices, registers and meters.
+-- Lookups by name in lists of devices, accounting registers and meters.
 use Rattle.std.proofs.Common.{◌≡◌, ◌≢◌, ℕ, ◌<◌, Bool, true, false, cond, ◌||◌, List, [], ◌∷◌, map, refl, sym, ap, subst, ◌∙◌, inl, inr, Option, Some, None, arith}
 use Rattle.std.specs.List.{find, list_any, All, AllPairs}
 use Rattle.std.specs.Option.{is_some}
@@ -84,8 +84,8 @@ found_step name false y x xs o none later h =
       | inr other ↦ cond-false _ _ _ other ∙ later h
     ]
 
--- If the names of a list are distinct, then an element that any search finds is also found by its
--- name.
+-- Suppose that the names of a list are distinct, and a search by some test finds an element. Then a
+-- search by the element's name finds the same element.
 pub found_by_name : {X : Type 0} (name : X → List ℕ) (p : X → Bool) (xs : List X) (x : X) → AreApart name xs
     → find p xs ≡ Some x → find (λ y. same (name y) (name x)) xs ≡ Some x
 found_by_name name p [] x apart h = absurd (cc)

@@ -1,4 +1,4 @@
--- Properties of sequences of calls of a store, which keeps the records.
+-- Properties of sequences of calls to a store of records.
 use Rattle.std.proofs.Common.{◌≡◌, ◌⊎◌, List, [], ◌∷◌, inl, inr, refl, subst, ◌∙◌, Result, Ok, Err, ap}
 use Rattle.office_events.specs.declared.facts.Fact.{Fact}
 use Rattle.office_books.specs.Lawful.{AreLawful}
@@ -8,8 +8,8 @@ use Rattle.office_books.specs.declared.failures.Failures.{Failures}
 use Rattle.office_books.specs.Faults.{FailuresAfterCalls}
 use Rattle.office_books.specs.Ledgers.{Ledger, LedgerAfterCall, LedgerAfterCalls, KeepsFacts, OnlyReads, Consults, Books, Moves, with_facts}
 
--- If a single call of the store has its guarantees, then a sequence with only this call has the
--- guarantees of a sequence.
+-- If one call to the store has the guarantees of a call (`LedgerAfterCall`), then it also has the
+-- guarantees of a sequence of calls.
 pub passes : {T : Type 0} (old new : Ledger) (result : Result T BooksFault) → LedgerAfterCall old new result → LedgerAfterCalls old new result
 passes old new (Ok x) goes = record { clean = goes.clean; faults = goes.faults; zone = goes.zone }
 passes old new (Err (Store fault)) goes = record { clean = goes.clean; faults = goes.faults; zone = goes.zone }
@@ -18,7 +18,7 @@ passes old new (Err Memory) goes = record { clean = goes.clean; faults = inl goe
 pub consults : {T : Type 0} (old new : Ledger) (result : Result T BooksFault) → OnlyReads old new result → Consults old new result
 consults old new result reads = record { goes = passes old new result reads.goes; keeps = reads.keeps }
 
--- The guarantees of a successful sequence of store calls do not depend on the value that the
+-- The guarantees of a successful sequence of calls to a store do not depend on the value that the
 -- sequence returns.
 pub passes_well : {T S : Type 0} (old new : Ledger) (x : T) (y : S) → LedgerAfterCalls old new (Ok x) → LedgerAfterCalls old new (Ok y)
 passes_well old new x y goes = record { clean = goes.clean; faults = goes.faults; zone = goes.zone }
@@ -27,7 +27,7 @@ pub passes_failed : {T S : Type 0} (old new : Ledger) (why : BooksFault) → Led
 passes_failed old new (Store fault) goes = record { clean = goes.clean; faults = goes.faults; zone = goes.zone }
 passes_failed old new Memory goes = record { clean = goes.clean; faults = goes.faults; zone = goes.zone }
 
--- If memory runs out after successful calls of the store, then the failure counter of the store
+-- If memory runs out after successful calls to the store, then the failure counter of the store
 -- does not change.
 pub passes_without : {T S : Type 0} (old new : Ledger) (x : T) → LedgerAfterCalls old new (Ok x) → LedgerAfterCalls {T = S} old new (Err Memory)
 passes_without old new x goes = record { clean = goes.clean; faults = inr goes.faults; zone = goes.zone }
@@ -77,15 +77,16 @@ read_then old between new known later x result reads moves = record {
   goes = passes_then old between new x result reads.goes moves.goes;
 }
 
--- After a successful write of records a crash leaves exactly the written records. A write of no
--- records leaves the possible states after a crash unchanged.
+-- After a successful write of records, the only list that a crash can leave is the earlier records
+-- followed by the written ones. A write of no records does not change what a crash may leave.
 pub settled_or_none : (old new : Ledger) (known : List Fact) (left : List (List Fact)) (facts : List Fact) (x : Unit {0})
     → Books old new facts (Ok x) → old.holds known → AreLawful (with_facts facts known) → old.may_leave left
     → new.may_leave (with_facts facts known ∷ []) ⊎ ((facts ≡ []) × new.may_leave left)
 settled_or_none old new known left [] x books h lawful may = inr (refl, (books.nothing refl).1.left left may)
 settled_or_none old new known left (fact ∷ facts) x books h lawful may = inl (books.settled (λ none. absurd (cc)) known h lawful)
 
--- A successful write of any number of records satisfies the guarantee of `Moves` about crashes.
+-- After a successful write, the only list that a crash can leave is the earlier records followed by
+-- the written ones. If the write adds no record, a crash may leave what it could leave before.
 pub settles : (old new : Ledger) (known : List Fact) (left : List (List Fact)) (facts : List Fact) (x : Unit {0})
     → Books old new facts (Ok x) → old.holds known → AreLawful (with_facts facts known) → old.may_leave left
     → new.may_leave (with_facts facts known ∷ []) ⊎ ((with_facts facts known ≡ known) × new.may_leave left)

@@ -1,4 +1,4 @@
--- Lemmas about names, and about the open meter at an accounting register (an energy counter), in
+-- Lemmas about names, and about the open meter of an accounting register (an energy counter), in
 -- lawful records. Lawful means that the rules accept each record after the earlier ones.
 use Rattle.std.proofs.Common.{◌≡◌, ℕ, true, false, cond, Bool, List, [], ◌∷◌, sym, ap, subst, ◌∙◌, inl, inr, Option, Some, None}
 use Rattle.std.specs.Prelude.{All}
@@ -109,7 +109,8 @@ opened_at facts p o free there before unended =
       | inr e ↦ later_there facts p o free (before (sym (cond-false _ _ _ e) ∙ there)) unended
     ]
 
--- If a meter is open, then it is the latest meter at its accounting register (an energy counter).
+-- If a meter is open, then it is the latest meter that was installed at its accounting register (an
+-- energy counter).
 open_is_latest : (facts : List Fact) (o : Opening) → AreLawful facts → IsInstalled facts o → is_ended facts o ≡ false
     → installed_at facts o.register ≡ Some o
 open_is_latest [] o h there unended = absurd (cc)

@@ -1,5 +1,5 @@
--- Lemmas about pending polls, which have no outcome. If one outcome preserves a property of the
--- records, then the outcomes of all pending polls preserve the property.
+-- Lemmas about pending polls, which have no outcome. If adding any one outcome preserves a property
+-- of the records, then adding the outcomes of all pending polls preserves the property.
 use Rattle.std.proofs.Common.{◌≡◌, ℕ, ◌+◌, ◌<◌, ◌≤◌, ◌==◌, true, false, cond, List, [], ◌∷◌, ◌++◌, map, reverse, length, refl, sym, ap, subst, ◌∙◌, arith, append_assoc}
 use Rattle.std.specs.List.{find, filter, flat_map}
 use Rattle.std.specs.Option.{is_some}
@@ -67,8 +67,7 @@ outcomes_keep P keeps at ((number, settlement) ∷ later) facts h once =
 abbrev pub poll_numbers : List Poll → List ℕ
 poll_numbers polls = map (λ poll. poll.number) polls
 
--- True if the number occurs at most once among the polls, and does not occur if it exceeds the
--- number of polls.
+-- True if `n` is the number of at most one poll, and of no poll if `n` exceeds the count of polls.
 record StandsOnce (n : ℕ) (polls : List Poll) : Type 0 where
   once : times n (poll_numbers polls) ≤ 1
   none_above : length polls < n → times n (poll_numbers polls) ≡ 0
@@ -94,8 +93,8 @@ none_from_length : {X : Type 0} (xs : List X) → length xs == 0 ≡ true → xs
 none_from_length [] h = refl
 none_from_length (x ∷ xs) h = absurd (let e : length (x ∷ xs) ≡ 0 = eqb-true (length (x ∷ xs)) 0 h in omega arith)
 
--- If each number of a list occurs at most as often as among the pending polls, then its polls are
--- distinct and have no outcome.
+-- Suppose that each number occurs in a list at most as often as among the pending polls. Then the
+-- numbers in the list are distinct, and the polls with these numbers have no outcome.
 open_once : (facts : List Fact) (ns : List ℕ) → AreNumbered (polls_in facts)
     → ((n : ℕ) → times n ns ≤ times n (poll_numbers (pending_in facts))) → AreOpenOnce facts ns
 open_once facts ns h at_most n among =

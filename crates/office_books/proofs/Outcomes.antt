@@ -156,8 +156,7 @@ outcomes_kept at ((number, settlement) ∷ later) facts timely h once =
 abbrev pub poll_numbers : List Poll → List ℕ
 poll_numbers polls = map (λ poll. poll.number) polls
 
--- True if the number occurs at most once among the polls, and does not occur if it exceeds the
--- number of polls.
+-- True if `n` is the number of at most one poll, and of no poll if `n` exceeds the count of polls.
 record StandsOnce (n : ℕ) (polls : List Poll) : Type 0 where
   once : times n (poll_numbers polls) ≤ 1
   none_above : length polls < n → times n (poll_numbers polls) ≡ 0
@@ -192,8 +191,8 @@ none_from_length : {X : Type 0} (xs : List X) → length xs == 0 ≡ true → xs
 none_from_length [] h = refl
 none_from_length (x ∷ xs) h = absurd (let e : length (x ∷ xs) ≡ 0 = eqb-true (length (x ∷ xs)) 0 h in omega arith)
 
--- If each number of a list occurs at most as often as among the pending polls, then its polls are
--- distinct and have no outcome.
+-- Suppose that each number occurs in a list at most as often as among the pending polls. Then the
+-- numbers in the list are distinct, and the polls with these numbers have no outcome.
 pub open_once : (facts : List Fact) (ns : List ℕ) → AreLawful facts
     → ((n : ℕ) → times n ns ≤ times n (poll_numbers (pending_in facts))) → AreOpenOnce facts ns
 open_once facts ns h at_most n among =

@@ -27,8 +27,8 @@ sorted_out us vs xs ys zs ws p q =
     (IsPermutation-trans _ _ _ (IsPermutation-append_right xs (ys ++ (zs ++ ws)) (zs ++ (ys ++ ws)) (exchanged ys zs ws))
     (same_is _ _ (sym (append_assoc xs zs (ys ++ ws))))))
 
--- Suppose that an element `y` is exchanged with the element `z` of a list. Then the lists that `f`
--- yields for all these elements are the same, up to their order.
+-- If `y` is exchanged with the element `z` of a list, one concatenation changes only by a
+-- permutation: `f y`, followed by the images of the list's elements under `f`.
 exchange_at : {X Y : Type 0} (f : X → List Y) (xs : List X) (j : ℕ) (y z : X) → j < length xs → z ≡ get_or xs j z → IsPermutation (f y ++ flat_map f xs) (f z ++ flat_map f (set xs j y))
 exchange_at f [] j y z l e = absurd (let h : j < 0 = l in omega arith)
 exchange_at f (x ∷ xs) zero y z l e =
@@ -69,8 +69,8 @@ flat_map-swap f (x ∷ xs) i j p q =
     let P : List _ → Type 0 = λ ys. IsPermutation (flat_map f (x ∷ xs)) (flat_map f ys) in
     subst P (swap_is (x ∷ xs) i j x p q) (exchange_both f (x ∷ xs) i j a b p q (get_or_default (x ∷ xs) i x a p) (get_or_default (x ∷ xs) j x b q))
 
--- If two lists are permutations, then mapping each of them with a function to lists and
--- concatenating the results yields permutations.
+-- If two lists are permutations of each other, then mapping both with a function to lists and
+-- concatenating the results yields permutations of each other.
 pub IsPermutation-flat_map : {X Y : Type 0} (f : X → List Y) (xs ys : List X) → IsPermutation xs ys → IsPermutation (flat_map f xs) (flat_map f ys)
 IsPermutation-flat_map f xs ys h =
     IsPermutation-keeps xs (λ zs. IsPermutation (flat_map f xs) (flat_map f zs)) (IsPermutation-refl (flat_map f xs))

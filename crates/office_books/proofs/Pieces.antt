@@ -50,7 +50,7 @@ rows_numbered o (journal.Entered k e ∷ lines) = (refl, rows_numbered o lines)
 rows_numbered o (journal.Held reading cause ∷ lines) = rows_numbered o lines
 rows_numbered o (journal.Voided place ∷ lines) = void_numbered o place (journal.rows_of o lines) (rows_numbered o lines)
 
--- The entries of a meter have the consecutive sequence numbers 1, 2 and so on.
+-- Lemmas that the entries of a meter have the consecutive sequence numbers 1, 2 and so on.
 
 abbrev Ascends : ℕ → List MeterEntry → Type 0
 Ascends k [] = Unit {0}
@@ -110,7 +110,7 @@ not_full zero xs lt = absurd (omega (arith, lt))
 not_full (suc m) [] lt = refl
 not_full (suc m) (x ∷ xs) lt = ap (λ more. x ∷ more) (not_full m xs (omega (arith, lt)))
 
--- A chunk with fewer than `m` entries is the last chunk.
+-- A chunk that has fewer entries than the `m` entries that were requested is the last chunk.
 pub last_piece : {X : Type 0} (n m : ℕ) (xs : List X) → length (take m (drop n xs)) < m → take n xs ++ take m (drop n xs) ≡ xs
 last_piece n m xs lt =
     ap (λ rest. take n xs ++ rest) (not_full m (drop n xs) lt) ∙ take-append-drop n xs

@@ -22,7 +22,8 @@ use Rattle.office_books.proofs.Lists.{reverse_cons}
 use Rattle.office_books.proofs.Journals.{IsInstalled, installed_fits, well}
 use Rattle.office_books.proofs.InTurn.{last_at, last_is_recorded, AllOver, InTurn, openings_at, in_turn}
 
--- The theorems about the energy of single meters by quarter hour that this proof uses.
+-- The theorems about the energy of single meters by quarter hour that the proofs about accounting
+-- registers use.
 pub record FromJournals : Type 0 where
   pub kept : laws.JournalsAreKept
   pub accounts : laws.IntervalRowsAreAccounts
@@ -110,8 +111,9 @@ after_within opened last (row ∷ rows) h =
     let here = All-head (LiesWithin opened last) row rows h in
     (here.quarter, here.following, after_within opened last rows (All-tail (LiesWithin opened last) row rows h))
 
--- The start times of one meter's interval rows (energy by quarter hour) never fall. The rows are
--- between the meter's first and last entry, and their energy is at most 4 * 10^18 mWh.
+-- States that the start times of one meter's interval rows (energy by quarter hour) never decrease.
+-- The rows are between the meter's first and last entry. Their energies add up to at most 4 * 10^18
+-- mWh.
 record IsFine (facts : List Fact) (o : Opening) : Type 0 where
   never_fall : NeverFall (rows_of_opening facts o)
   within : All (LiesWithin o.at (last_at facts o)) (rows_of_opening facts o)
@@ -184,8 +186,8 @@ energy_with facts o os =
     let mwh : Share → ℕ = λ row. row.mwh in
     ap energy_of (one_more facts o os) ∙ sum_by-append mwh (rows_in_turn facts os) (rows_of_opening facts o)
 
--- The energy of a register's meters is at most 4 * 10^18 mWh for each second up to the last
--- timestamp.
+-- If no meter of a register has an entry later than `at`, their total energy is at most 4 * 10^18
+-- mWh times `at`. The time `at` is in seconds since 1970-01-01.
 all_energy : FromJournals → (facts : List Fact) (at : ℕ) (os : List Opening) → AreLawful facts → InTurn facts os → LastBy facts at os
     → energy_of (rows_in_turn facts os) ≤ at * (4 * 10 ^ 18)
 all_energy law facts at [] h turn last = omega arith

@@ -17,8 +17,8 @@ use Rattle.poll_core.specs.Settling.{Event, Start, Piece, Tick, Close, Settlemen
 use Rattle.poll_core.specs.Laws.{outcomes_by_poll, outcomes_by_event, with_event, new_result}
 use Rattle.office_books.proofs.Permutations.{same_is}
 
--- The theorems about Modbus sessions that the proofs use. Each poll with an outcome ended exactly
--- once, and one more event has a known effect.
+-- The theorems about Modbus sessions that the proofs use: each poll with an outcome ended exactly
+-- once, and one more event changes the polls as specified.
 pub record SessionLaws : Type 0 where
   pub once : (timeout : ℕ) (events : List Event) → IsPermutation (outcomes_by_poll timeout events) (outcomes_by_event timeout events)
   pub outcomes : (timeout : ℕ) (events : List Event) (event : Event) →

@@ -70,8 +70,8 @@ openings_begin o facts h =
 pub named : (facts : List Fact) (m : List ℕ) (o : Opening) → opening_of facts m ≡ Some o → o.meter ≡ m
 named facts m o there = same_text o.meter m (find_passes (λ (x : Opening). same x.meter m) (openings_in facts) o there)
 
--- If a line may be added to a meter's journal (history), then the rules for the journal of the
--- found meter accept the line.
+-- Suppose that a line may be added to a meter's journal (history), and a search finds the meter by
+-- name. Then the journal rules of this meter accept the line.
 pub own_line : (facts : List Fact) (meter : List ℕ) (line : journal.Line) (o : Opening) → LineFits facts meter line → opening_of facts meter ≡ Some o
     → journals.Fits (installed o) (journal_of facts o.meter) line
 own_line facts meter line o fits there =

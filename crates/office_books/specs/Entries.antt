@@ -1,5 +1,5 @@
--- Lists of a meter's entries by sequence number, and of the meters at an accounting register (an
--- energy counter).
+-- Lists of a meter's entries by sequence number, and of the meters that were installed at an
+-- accounting register (an energy counter).
 use Rattle.std.specs.Prelude.{ℕ, ℤ, nat_le, List, [], ◌∷◌, map, reverse, take, Option, Some, None}
 use Rattle.std.specs.List.{filter}
 use Rattle.energy_core.specs.Account.{last_of}
@@ -19,7 +19,8 @@ abbrev pub place_of : MeterEntry → ℕ
 place_of (entry.Opening last) = 1
 place_of (entry.Later row sf) = row.place
 
--- The scale factor of a meter's counter after the given entry rows. Only the valid rows count.
+-- The scale factor of a meter's counter after the given entry rows. Rows of voided (cancelled)
+-- entries do not count.
 abbrev pub scale_after : Opening → List EntryRow → ℤ
 scale_after opening rows = (last_of (opened opening) (entries_in rows)).sf
 
@@ -49,8 +50,8 @@ first_from from most entries = take most (filter (λ e. nat_le from (place_of e)
 abbrev pub entries_from : List Fact → (meter : List ℕ) → (from most : ℕ) → List MeterEntry
 entries_from facts meter from most = first_from from most (all_entries facts meter)
 
--- The meters at the named accounting register (an energy counter) with their state, in order of
--- installation, closed meters included.
+-- The meters that were installed at the named accounting register (an energy counter), with their
+-- state. They are in order of installation, and include closed meters.
 abbrev pub installations_of : List Fact → (register : List ℕ) → List Installation
 installations_of facts register =
     map (installation_of facts) (installations_at facts register)

@@ -29,7 +29,7 @@ moment_limit = LAST_MOMENT
 abbrev pub poll_limit : ℕ
 poll_limit = MAX_POLLS
 
--- The greatest number of a caller's request: 2^63 - 1.
+-- The greatest number in an idempotency key of a request: 2^63 - 1.
 abbrev pub request_limit : ℕ
 request_limit = MAX_REQUEST
 
@@ -85,7 +85,8 @@ abbrev pub as_ended : Fact → Option EndedPoll
 as_ended (fact.Outcome ended) = Some ended
 as_ended _ = None
 
--- The contents of all records of one kind, as in a database table. The latest record comes first.
+-- The contents of all records of the kind that the function's name states, as in a database table.
+-- The latest record comes first.
 abbrev pub devices_in : List Fact → List Device
 devices_in facts = filter_map as_device facts
 
@@ -116,8 +117,8 @@ polls_in facts = filter_map as_poll facts
 abbrev pub ended_in : List Fact → List EndedPoll
 ended_in facts = filter_map as_ended facts
 
--- The device, the accounting register or the meter's opening (installation record) with the given
--- name. `None` if no record has the name.
+-- Lookups by name: the device, the accounting register, or the meter's opening (installation
+-- record) with the given name. `None` if no record has the name.
 abbrev pub device_of : List Fact → List ℕ → Option Device
 device_of facts name = find (λ device. same device.name name) (devices_in facts)
 
@@ -133,8 +134,8 @@ abbrev pub registers_of : List Fact → List ℕ → List Register
 registers_of facts device =
     reverse (filter (λ register. same register.device device) (registers_in facts))
 
--- The opening (installation record) of the latest meter at the accounting register with the given
--- name, or `None` if no meter was installed there.
+-- The opening (installation record) of the latest meter that was installed at the accounting
+-- register with the given name. `None` if no meter was installed there.
 abbrev pub installed_at : List Fact → List ℕ → Option Opening
 installed_at facts register = find (λ opening. same opening.register register) (openings_in facts)
 

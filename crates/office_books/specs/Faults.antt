@@ -33,14 +33,14 @@ failed_by (Store fault) failures = record {
 }
 failed_by Memory failures = record { count = failures.count; last = Some Memory }
 
--- The failure counter after one call of the store with the given result.
+-- The failure counter after one call to the store with the given result.
 abbrev pub faults_after : {T : Type 0} → Result T BooksFault → Failures → Failures
 faults_after (Ok x) failures = failures
 faults_after (Err fault) failures = failed_by fault failures
 
--- The relation between the failure counters before and after several calls of a store. If the calls
--- fail with a fault of the store, the counter counts exactly this fault. A lack of memory between
--- two calls is not counted.
+-- States how a sequence of calls to a store changes its failure counter. A failure of the store
+-- adds one, and success changes nothing. A lack of memory is not counted, but the counter may
+-- record it as the last failure.
 abbrev pub FailuresAfterCalls : {T : Type 0} → Result T BooksFault → (old new : Failures) → Type 0
 FailuresAfterCalls (Ok x) old new = new ≡ old
 FailuresAfterCalls (Err (Store fault)) old new = new ≡ failed_by (Store fault) old

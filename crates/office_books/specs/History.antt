@@ -87,7 +87,7 @@ with_outcomes at [] facts = facts
 with_outcomes at (settled ∷ later) facts = with_outcomes at later (with_outcome at settled facts)
 
 -- The polls that a list of session events ends, in order, each with its result. A session is a
--- connection of a device. `before` are the earlier events of the session.
+-- connection of a device. The first list has the earlier events of the session.
 abbrev pub settled_in : Device → List session.Event → List session.Event
     → List (ℕ × session.Settlement)
 settled_in device before [] = []
@@ -140,7 +140,7 @@ register_by c name device =
     })
 
 -- The opening (installation record) of a new meter at an accounting register (an energy counter),
--- at the timestamp `at`.
+-- with the given timestamp.
 abbrev pub opening_by : ℕ → Install → (register meter : List ℕ) → Fact
 opening_by at c register meter =
     fact.Opening (record {
@@ -166,14 +166,14 @@ installed_by c =
       range = c.range;
     }
 
--- The timestamp of a reading by hand: the time in the command, or the time of the command if it
--- states none.
+-- The timestamp of a manual reading: the time that the command states, or the time of the command
+-- itself if the command states no time.
 abbrev pub read_at : (at : ℕ) → Option ℕ → ℕ
 read_at at None = at
 read_at at (Some earlier) = earlier
 
--- The parameters of the entry that a command makes, which are its accounting register (an energy
--- counter), its kind, its times and its counts.
+-- The parameters of the entry that a command makes: its accounting register (an energy counter),
+-- its kind, and the entry itself (times and counter values).
 pub record Made : Type 0 where
   pub register : Option (List ℕ)
   pub kind : EntryKind
@@ -214,8 +214,8 @@ made_by at last (command.Close c) =
     })
 made_by at last _ = None
 
--- The accounting register at which a command records an entry, or `None` if the command records no
--- entry or the name is invalid.
+-- The accounting register (an energy counter) for whose meter a command records an entry. `None` if
+-- the command records no entry or the name is invalid.
 abbrev pub corrected_at : Command → Option (List ℕ)
 corrected_at (command.Exchange c) = c.register
 corrected_at (command.Reset c) = c.register
@@ -232,8 +232,8 @@ made_on at c row = option_map
     (record { meter = row.opening.meter; kind = made.kind; entry = made.entry }))
     (made_by at row.last c)
 
--- The record of the entry that a command makes for the open meter at its register. The list is
--- empty if the command makes no entry or no meter is open.
+-- The record of the entry that a command makes for the open meter of the command's accounting
+-- register. The list is empty if the command makes no entry or no meter is open.
 abbrev pub entries_by : (at : ℕ) → List Fact → Command → List Fact
 entries_by at facts c =
     option_to_list
@@ -270,8 +270,8 @@ abbrev pub spans_in : List Fact → Option Command → List ReadSpan
 spans_in facts None = []
 spans_in facts (Some c) = spans_by facts c
 
--- The reads that a device's Modbus session can start, from the first of `spans` on. No read starts
--- if the device does not exist.
+-- The reads that a device's Modbus session can start, from the first of the given reads on. No read
+-- starts if the device does not exist.
 abbrev pub sends_from : (number at : ℕ) → List ReadSpan → Option Slot → List Send
 sends_from number at spans None = []
 sends_from number at spans (Some slot) = sends_at number at slot.device slot.present spans
@@ -293,7 +293,7 @@ poll_by at device send =
       span = send.span;
     })
 
--- The records of the polls that a device's Modbus session can start for the reads `spans`. The list
+-- The records of the polls that a device's Modbus session can start for the given reads. The list
 -- is empty if the device does not exist.
 abbrev pub polls_from : (number at : ℕ) → List ReadSpan → Option Slot → List Fact
 polls_from number at spans None = []

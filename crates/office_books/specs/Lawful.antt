@@ -21,7 +21,7 @@ use Rattle.office_books.specs.Facts.{moment_limit, poll_limit, request_limit, mo
 use Rattle.office_books.specs.Meters.{held_line, installed, journal_of, open_at}
 use Rattle.office_books.specs.History.{next_poll}
 
--- True if a device may be added. No device has its name, and its Modbus unit, timeout and window
+-- True if a device may be added: no device has its name, and its Modbus unit, timeout and window
 -- (number of concurrent polls) are in range.
 pub record DeviceFits (facts : List Fact) (device : Device) : Type 0 where
   pub new : device_of facts device.name ≡ None
@@ -29,21 +29,21 @@ pub record DeviceFits (facts : List Fact) (device : Device) : Type 0 where
   pub timeout : (1 ≤ device.timeout) × (device.timeout ≤ MAX_TIMEOUT)
   pub window : (1 ≤ device.window) × (device.window ≤ MAX_WINDOW)
 
--- True if a point list may be stored. Its device exists, and the Modbus reads stored with the list
+-- True if a point list may be stored: its device exists, and the Modbus reads stored with the list
 -- are those of the plan for its points.
 pub record ListFits (facts : List Fact) (put : DeviceList) : Type 0 where
   pub device : is_some (device_of facts put.device) ≡ true
   pub planned : IsPlanned put.list
 
--- True if an accounting register (an energy counter) may be added. No accounting register has its
+-- True if an accounting register (an energy counter) may be added: no accounting register has its
 -- name, and its device exists.
 pub record RegisterFits (facts : List Fact) (register : Register) : Type 0 where
   pub new : register_of facts register.name ≡ None
   pub device : is_some (device_of facts register.device) ≡ true
 
--- True if a meter may be installed. No meter has its name, and its accounting register (an energy
--- counter) exists and has no open meter. No record has a later timestamp, and the meter's counts
--- and limits are in range.
+-- True if a meter may be installed: no meter has its name, and its accounting register (an energy
+-- counter) exists and has no open meter. Also, no record has a later timestamp, and the meter's
+-- counter value and limits are in range.
 pub record OpeningFits (facts : List Fact) (opening : Opening) : Type 0 where
   pub new : opening_of facts opening.meter ≡ None
   pub free : open_at facts opening.register ≡ None
@@ -55,32 +55,33 @@ pub record OpeningFits (facts : List Fact) (opening : Opening) : Type 0 where
   pub ceiling : (1 ≤ opening.ceiling) × (opening.ceiling ≤ MAX_CEILING)
 
 -- True if a line may be added to a meter's journal, the list of its entries, rejected readings and
--- voids (cancellations). The meter is installed, and the journal's rules accept the line.
+-- voids (cancellations). The conditions: the meter is installed, and the journal's rules accept the
+-- line.
 pub record LineFits (facts : List Fact) (meter : List ℕ) (line : journal.Line) : Type 0 where
   pub opening : Opening
   pub there : opening_of facts meter ≡ Some opening
   pub fits : journals.Fits (installed opening) (journal_of facts opening.meter) line
 
--- True if a rejected reading may be recorded. Its poll was started, and the rules accept the
+-- True if a rejected reading may be recorded: its poll was started, and the rules accept the
 -- reading as the next line of its meter's journal (history).
 pub record HoldFits (facts : List Fact) (held : HeldReading) : Type 0 where
   pub started : is_some (poll_of facts held.poll) ≡ true
   pub line : LineFits facts held.meter (held_line held)
 
--- True if a poll may be recorded. The poll has the next number, which is within the limit, and its
--- device exists.
+-- True if a poll may be recorded: it has the next poll number, this number is within the limit, and
+-- the poll's device exists.
 pub record PollFits (facts : List Fact) (poll : Poll) : Type 0 where
   pub number : poll.number ≡ next_poll facts
   pub few : poll.number ≤ poll_limit
   pub device : is_some (device_of facts poll.device) ≡ true
 
--- True if an outcome may be recorded. Its poll was started and has no outcome yet.
+-- True if an outcome may be recorded: its poll was started and has no outcome yet.
 pub record EndFits (facts : List Fact) (ended : EndedPoll) : Type 0 where
   pub started : is_some (poll_of facts ended.poll) ≡ true
   pub pending : ends_of facts ended.poll ≡ []
 
--- True if the response to a request may be stored. No response is stored for its caller and number,
--- and the number is within the limit.
+-- True if the response to a request may be stored: no response is stored for its idempotency key
+-- (caller and number), and the number is within the limit.
 pub record ReplyFits (facts : List Fact) (reply : Reply) : Type 0 where
   pub new : reply_of facts reply.caller reply.number ≡ None
   pub number : reply.number ≤ request_limit
@@ -99,7 +100,7 @@ Fits facts (fact.Poll poll) = PollFits facts poll
 Fits facts (fact.Outcome ended) = EndFits facts ended
 Fits facts (fact.Reply reply) = ReplyFits facts reply
 
--- True if records are lawful. The rules accept each record after the earlier records, and no
+-- True if records are lawful: the rules accept each record after the earlier records, and no
 -- timestamp exceeds the greatest timestamp.
 abbrev pub AreLawful : List Fact → Type 0
 AreLawful [] = Unit {0}

@@ -19,20 +19,22 @@ use Rattle.office_books.specs.Lawful.{AreLawful}
 use Rattle.office_books.specs.Endings.{EachEndsOnce}
 use Rattle.office_books.specs.Laws.{IsRecorded, IsKept, IsUntraced}
 
--- True if a command stores no point list, or if the reads of its point list equal the reads of its
--- plan. The type `PlannedList` guarantees this condition.
+-- True if a command stores no point list, or if its point list has the Modbus reads that are
+-- planned for its points. The type `PlannedList` guarantees this condition.
 abbrev pub PutsPlanned : Option Command → Type 0
 PutsPlanned (Some (command.PutList c)) = IsPlanned c.list
 PutsPlanned _ = Unit {0}
 
--- True if all point lists in accepted commands have the reads of their plans.
+-- True if each point list in an accepted command has the Modbus reads that are planned for its
+-- points.
 abbrev pub ListsArePlanned : History → Type 0
 ListsArePlanned [] = Unit {0}
 ListsArePlanned (Opened at ∷ past) = ListsArePlanned past
 ListsArePlanned (Fed at e ∷ past) = PutsPlanned (command_in e) × ListsArePlanned past
 
--- True if a list of program starts and events is a possible past of the program. Each item was
--- accepted after the earlier items, and each point list has the reads of its plan.
+-- True if a list of program starts and events is a possible past of the program: each item was
+-- accepted after the earlier items. Also, each point list has the Modbus reads that are planned for
+-- its points.
 pub record IsPast (history : History) : Type 0 where
   pub accepted : AreAccepted history
   pub planned : ListsArePlanned history
@@ -44,8 +46,8 @@ FactsAreLawful = (history : History) → AreAccepted history → ListsArePlanned
     → AreLawful (facts_of history)
 
 -- True if no two devices, accounting registers or meters have the same name, so a search by name
--- finds each of them. Any open meter at an accounting register is the latest meter there, so at
--- most one meter is open.
+-- finds each of them. Also, any open meter of an accounting register is the latest meter that was
+-- installed there.
 pub record AreDistinct (facts : List Fact) : Type 0 where
   pub devices : AllPairs (λ (a b : Device). a.name ≢ b.name) (devices_in facts)
   pub registers : AllPairs (λ (a b : Register). a.name ≢ b.name) (registers_in facts)
@@ -65,10 +67,10 @@ pub record AreDistinct (facts : List Fact) : Type 0 where
 abbrev pub NamesAreDistinct : Type 0
 NamesAreDistinct = (facts : List Fact) → AreLawful facts → AreDistinct facts
 
--- True if the polls and meters are correct after a list of accepted events. Each poll ended once or
--- is pending. The energy of each meter, in total and by quarter hour, comes from its valid entries,
--- and voided (cancelled) entries leave no trace. If the readings come from an honest meter that is
--- polled often enough, this energy equals the true energy.
+-- States that the polls and meters after a list of accepted events are correct. Each poll ended
+-- once or is pending. The energy of each meter, in total and by quarter hour, comes from its valid
+-- entries, and voided (cancelled) entries leave no trace. If the readings come from an honest meter
+-- that is polled often enough, this energy equals the true energy.
 pub record AreTrue (history : History) : Type 0 where
   pub polls : EachEndsOnce history
   pub lawful : AreLawful (facts_of history)

@@ -27,13 +27,13 @@ abbrev pub JournalsFit : Type 0
 JournalsFit = (facts : List Fact) (opening : Opening) → AreLawful facts → IsRecorded facts opening
     → AreFitting (installed opening) (journal_of facts opening.meter)
 
--- True if the energy of a meter balances. One sum consists of its total energy, its value at the
--- installation, and the values to which its counter was set. The other sum consists of its last
--- value, a full range for each rollover, and the values before the counter was set. Both sums are
--- equal.
+-- True if the energy of a meter balances, which means that two sums are equal. The first sum adds
+-- the total energy, the value at the installation, and the values to which the counter was set. The
+-- second sum adds the last value, a full range for each rollover, and the values before the counter
+-- was set.
 --
--- The energies of the steps between valid entries, and the energies by quarter hour, add up to the
--- total energy.
+-- Also, the energies of the steps between valid entries add up to the total energy. The energies by
+-- quarter hour add up to the same total.
 pub record IsKept (facts : List Fact) (opening : Opening) : Type 0 where
   pub energy : (installation_of facts opening).total + value_of (opened opening)
       + set_anew (entries_of facts opening)
@@ -49,17 +49,17 @@ abbrev pub MetersAreKept : Type 0
 MetersAreKept = (facts : List Fact) (opening : Opening) → AreLawful facts → IsRecorded facts opening
     → IsKept facts opening
 
--- Theorem about an honest meter that is polled often enough. It covers the readings that were valid
--- after the last void (cancellation), and all later readings. Then none of the later readings was
--- rejected. The recorded energy, in total and by quarter hour, equals the true energy.
+-- Theorem about an honest meter that is polled often enough and has no entries but readings. Its
+-- recorded energy, in total and by quarter hour, equals the true energy. No reading after the last
+-- void (cancellation) is rejected. The voided readings may be wrong.
 abbrev pub TruthIsRecorded : Type 0
 TruthIsRecorded = (facts : List Fact) (opening : Opening) (first : Item) (items : List Item)
     → AreLawful facts → IsRecorded facts opening
     → truth.ShowsTrueRun (installed opening) (journal_of facts opening.meter) first items
     → truth.IsKeptTruly (installed opening) (journal_of facts opening.meter) first items
 
--- True if the valid entries of a meter are the entries that no void (cancellation) names. Without
--- the other entries, the meter's history leads to the same energy.
+-- True if the valid entries of a meter are exactly the entries that no void (cancellation) names,
+-- and voids leave no trace: the meter's history without the voided entries yields the same energy.
 pub record IsUntraced (facts : List Fact) (opening : Opening) : Type 0 where
   pub rows : journals.HasItsRows (installed opening) (journal_of facts opening.meter)
   pub alone : journals.LeavesNoTrace (installed opening) (journal_of facts opening.meter)
@@ -77,19 +77,19 @@ poll_in (fact.Poll poll) = poll.number
 poll_in (fact.Outcome ended) = ended.poll
 poll_in _ = 0
 
--- The request number in a record, or 0 if the record has no request number.
+-- The number of the idempotency key in a record, or 0 if the record has no idempotency key.
 abbrev pub request_in : Fact → ℕ
 request_in (fact.Reply reply) = reply.number
 request_in _ = 0
 
--- True if the timestamp, the poll number and the request number of a record are within their
--- limits.
+-- True if the timestamp, the poll number and the number of the idempotency key in a record are
+-- within their limits.
 pub record IsBounded (f : Fact) : Type 0 where
   pub moment : moment_in f ≤ moment_limit
   pub poll : poll_in f ≤ poll_limit
   pub request : request_in f ≤ request_limit
 
 -- Theorem: if the records follow the rules (`AreLawful`), then their timestamps, poll numbers and
--- request numbers are within their limits.
+-- numbers of idempotency keys are within their limits.
 abbrev pub FactsAreBounded : Type 0
 FactsAreBounded = (facts : List Fact) → AreLawful facts → All IsBounded facts

@@ -1,4 +1,4 @@
--- A model of the store of records, and how calls of the store may change the model.
+-- A model of the store of records, and how calls to the store may change the model.
 use Rattle.std.specs.Prelude.{◌≡◌, ◌≢◌, ◌⊎◌, List, [], ◌∷◌, ◌++◌, reverse, Result, IfOk, OnOk, OnErr, IsOk}
 use Rattle.interval_core.specs.declared.zone.Zone.{Zone}
 use Rattle.office_events.specs.declared.facts.Fact.{Fact}
@@ -10,7 +10,7 @@ use Rattle.office_books.specs.Faults.{FailuresAfterCalls, faults_after}
 -- The model of a store at one point in time: its records, and the lists of records that a crash may
 -- leave instead.
 --
--- `is_clean` means that no wrong result of the storage went undetected. The model also has the
+-- `is_clean` means that every wrong result of the storage was detected. The model also has the
 -- failure counter, the time zone of civil days, and whether the store is open.
 pub record Ledger : Type 1 where
   pub holds : List Fact → Type 0
@@ -20,43 +20,44 @@ pub record Ledger : Type 1 where
   pub failures : Failures
   pub zone : Zone
 
--- The guarantees of each call of a store. The store counts a failure, and its time zone stays the
--- same. If the store is clean after the call, which means that no wrong result went undetected,
--- then it was clean before.
+-- The guarantees of each call to a store. If the call fails, the store counts the failure, and its
+-- time zone stays the same. If the store is clean (every wrong result was detected) after the call,
+-- then it was clean before the call.
 pub record LedgerAfterCall {T : Type 0} (old new : Ledger) (result : Result T BooksFault) :
     Type 0 where
   pub clean : new.is_clean → old.is_clean
   pub faults : new.failures ≡ faults_after result old.failures
   pub zone : new.zone ≡ old.zone
 
--- The guarantees of a sequence of calls. The failure counter follows from the result, and the time
--- zone stays the same. If the store is clean after the calls, which means that no wrong result went
--- undetected, then it was clean before.
+-- The guarantees of a sequence of calls to a store. The failure counter follows from the result,
+-- and the time zone stays the same. If the store is clean (every wrong result was detected) after
+-- the calls, then it was clean before the calls.
 pub record LedgerAfterCalls {T : Type 0} (old new : Ledger) (result : Result T BooksFault) :
     Type 0 where
   pub clean : new.is_clean → old.is_clean
   pub faults : FailuresAfterCalls result old.failures new.failures
   pub zone : new.zone ≡ old.zone
 
--- States that neither the store's records nor the lists of records that a crash may leave change.
+-- States that the store's records do not change, and that the lists of records that a crash may
+-- leave do not change either.
 pub record KeepsFacts (old new : Ledger) : Type 0 where
   pub facts : (known : List Fact) → old.holds known → new.holds known
   pub left : (left : List (List Fact)) → old.may_leave left → new.may_leave left
 
--- The guarantees of one lookup: it counts its failure, and changes neither the records nor what a
--- crash may leave.
+-- The guarantees of one lookup in a store. If the lookup fails, the store counts the failure. The
+-- store's records and the records that a crash may leave do not change.
 pub record OnlyReads {T : Type 0} (old new : Ledger) (result : Result T BooksFault) : Type 0 where
   pub goes : LedgerAfterCall old new result
   pub keeps : KeepsFacts old new
 
--- The guarantees of several lookups: they count a failure, and change neither the records nor what
--- a crash may leave.
+-- The guarantees of several lookups in a store. If a lookup fails, the failure counter follows from
+-- the result. The store's records and the records that a crash may leave do not change.
 pub record Consults {T : Type 0} (old new : Ledger) (result : Result T BooksFault) : Type 0 where
   pub goes : LedgerAfterCalls old new result
   pub keeps : KeepsFacts old new
 
--- True if the result of a lookup agrees with the store's records. The premise is that the store is
--- clean after the lookup, which means that no wrong result went undetected.
+-- States that, if the store is clean (every wrong result was detected) after a lookup, a successful
+-- result agrees with the store's records. States nothing otherwise.
 abbrev pub Finds : {T : Type 0} → (old new : Ledger) → Result T BooksFault
     → (List Fact → T → Type 0) → Type 0
 Finds old new result says = (known : List Fact) → old.holds known → new.is_clean
@@ -67,9 +68,8 @@ Finds old new result says = (known : List Fact) → old.holds known → new.is_c
 abbrev pub with_facts : (facts : List Fact) → (known : List Fact) → List Fact
 with_facts facts known = reverse facts ++ known
 
--- The guarantees of a write of records. On `Ok` the store has all of the records, and a crash
--- leaves exactly these records. On an error the store has none of them, but a crash may leave all
--- of them.
+-- The guarantees of a write of records. On `Ok` the store has all of the written records, and keeps
+-- them after a crash. On an error the store has none of them, but a crash may leave all of them.
 --
 -- A write of no records succeeds and changes nothing.
 pub record Books (old new : Ledger) (facts : List Fact) (result : Result (Unit {0}) BooksFault) :

@@ -1,5 +1,5 @@
--- The meters in the records: their journals (histories), their states, and the meters at each
--- accounting register (an energy counter).
+-- The meters in the records: their journals (histories), their states, and the meters that were
+-- installed at each accounting register (an energy counter).
 use Rattle.std.specs.Prelude.{ℕ, Bool, List, Option, Some, None, if◌then◌else◌}
 use Rattle.std.specs.List.{filter_map}
 use Rattle.std.specs.Option.{option_map, option_and_then}
@@ -38,8 +38,8 @@ line_of meter _ = None
 abbrev pub journal_of : List Fact → (meter : List ℕ) → journal.Journal
 journal_of facts meter = filter_map (line_of meter) facts
 
--- The state of a meter's counter when the meter was installed: the time, the count and the scale
--- factor.
+-- The state of a meter's counter when the meter was installed: the time, the counter value and the
+-- scale factor.
 abbrev pub opened : Opening → Last
 opened opening = record { at = opening.at; raw = opening.raw; sf = opening.sf }
 
@@ -86,8 +86,8 @@ installation_of facts opening = standing opening (entries_of facts opening) (is_
 abbrev pub meter_of : List Fact → List ℕ → Option Installation
 meter_of facts meter = option_map (installation_of facts) (opening_of facts meter)
 
--- The state of the latest meter at the accounting register (an energy counter) with a given name,
--- open or closed. `None` if no meter was installed there.
+-- The state of the latest meter, open or closed, that was installed at the accounting register (an
+-- energy counter) with a given name. `None` if no meter was installed there.
 abbrev pub installation_at : List Fact → List ℕ → Option Installation
 installation_at facts register = option_map (installation_of facts) (installed_at facts register)
 

@@ -1,5 +1,5 @@
--- The lookup of a meter's entry from only the rows around the entry, with the meter's present total
--- energy.
+-- The lookup of a meter's entry that reads only the rows around the entry. The result has the
+-- meter's present total energy instead of the energy before the entry.
 use Rattle.std.specs.Prelude.{◌≡◌, ℕ, ◌≤◌, List, Option, Some}
 use Rattle.std.specs.Option.{option_map, option_and_then}
 use Rattle.office_events.specs.declared.facts.Fact.{Fact}
@@ -7,8 +7,8 @@ use Rattle.office_events.specs.declared.questions.Installation.{Installation}
 use Rattle.office_events.specs.declared.questions.EntryContext.{EntryContext}
 use Rattle.office_books.specs.Meters.{meter_of, entry_at}
 
--- The entry and its neighbours, where `mwh` replaces the energy of the meter before the entry, in
--- mWh.
+-- The entry and its neighbors, where `mwh` (in mWh) replaces the energy of the meter before the
+-- entry.
 abbrev pub with_energy : (mwh : ℕ) → EntryContext → EntryContext
 with_energy mwh place = record place { before = record place.before { total = mwh } }
 

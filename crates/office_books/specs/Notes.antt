@@ -41,8 +41,9 @@ as_note meter reading (Held cause) = note.Held meter reading.raw cause
 abbrev pub reading_note : Reading → Installation → Note
 reading_note reading row = as_note row.opening.meter reading (judgement row reading)
 
--- The notification of a reading at an accounting register (an energy counter) in a response. The
--- list is empty if the read does not cover the register, or no meter is open there.
+-- The notification of the reading that a response has for an accounting register (an energy
+-- counter). The list is empty if the read does not cover the register, or the register has no open
+-- meter.
 abbrev pub register_notes : ℕ → Poll → List ℕ → Register → List Fact → List Note
 register_notes at poll words register facts =
     if is_read_by poll.span register
@@ -51,8 +52,8 @@ register_notes at poll words register facts =
     (open_at facts register.name))
     else []
 
--- The notifications of the readings at several accounting registers (energy counters) in a
--- response, in order.
+-- The notifications of the readings that a response has for several accounting registers (energy
+-- counters), in order.
 abbrev pub registers_notes : ℕ → Poll → List ℕ → List Register → List Fact → List Note
 registers_notes at poll words [] facts = []
 registers_notes at poll words (register ∷ registers) facts =
@@ -93,8 +94,8 @@ settled_notes number at e (slot ∷ slots) facts =
     outcomes_notes at (settled_by number at e slot) facts
     ++ settled_notes number at e slots (with_outcomes at (settled_by number at e slot) facts)
 
--- The notifications of an accepted event, which are those of the polls that the event ends. A new
--- connection or a command has none.
+-- The notifications of an accepted event: those of the polls that the event ends. A new connection
+-- or a command has no notifications.
 abbrev pub notes_of : (number at : ℕ) → Event → List Slot → List Fact → List Note
 notes_of number at (event.Bytes given piece) slots facts =
     settled_notes number at (event.Bytes given piece) slots facts
@@ -126,7 +127,8 @@ frames_by number at slots facts (Some c) =
 abbrev pub outgoing_of : (number at : ℕ) → Event → List Slot → List Fact → List ℕ
 outgoing_of number at e slots facts = frames_by number at slots facts (command_in e)
 
--- The notifications after an event with a given answer. A refused event or a retry has none.
+-- The notifications after an event with a given answer. A refused event or a retry has no
+-- notifications.
 abbrev pub notes_after : History → (at : ℕ) → Event → Result Answer Refusal → List Note
 notes_after past at e (Ok (answer.Again k)) = []
 notes_after past at e (Ok given) =

@@ -40,7 +40,7 @@ abbrev pub contains_scale : ReadSpan → ScaleSource → Bool
 contains_scale span (source.Fixed sf) = true
 contains_scale span (source.Register address) = contains span address 1
 
--- True if a read covers an accounting register (an energy counter). The function codes are equal,
+-- True if a read covers an accounting register (an energy counter): the function codes are equal,
 -- and the read contains the accounting register's counter and scale factor.
 abbrev pub is_read_by : ReadSpan → Register → Bool
 is_read_by span register =
@@ -73,8 +73,8 @@ judgement row reading =
     verdict_of row.opening.range (record { ceiling = row.opening.ceiling; total = row.total })
     row.last reading
 
--- The record of a reading with a given verdict. An accepted reading is an entry of its meter, and
--- any other reading is a rejected reading with its cause.
+-- The record of a reading with a given verdict. An accepted reading is recorded as an entry of its
+-- meter, and a rejected reading is recorded with its cause.
 abbrev pub as_fact : (meter : List ℕ) → (poll : ℕ) → Reading → Verdict → Fact
 as_fact meter poll reading (Accepted rolls step) =
     fact.Entry (record
@@ -99,8 +99,8 @@ abbrev pub with_reading : (poll : ℕ) → Reading → Option Installation → L
 with_reading poll reading None facts = facts
 with_reading poll reading (Some row) facts = reading_fact poll reading row ∷ facts
 
--- The records after the reading at an accounting register (an energy counter) in a response is
--- added. If the read does not cover the register, nothing is added.
+-- The records after the reading that a response has for an accounting register (an energy counter)
+-- is added. If the read does not cover the register, nothing is added.
 abbrev pub with_register : ℕ → Poll → List ℕ → Register → List Fact → List Fact
 with_register at poll words register facts =
     if is_read_by poll.span register
@@ -108,8 +108,8 @@ with_register at poll words register facts =
     (open_at facts register.name) facts
     else facts
 
--- The records after the readings at several accounting registers (energy counters) in a response
--- are added, in order.
+-- The records after the readings that a response has for several accounting registers (energy
+-- counters) are added, in order.
 abbrev pub with_registers : ℕ → Poll → List ℕ → List Register → List Fact → List Fact
 with_registers at poll words [] facts = facts
 with_registers at poll words (register ∷ registers) facts =

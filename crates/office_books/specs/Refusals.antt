@@ -88,8 +88,8 @@ asks_unknown slots facts (command.StartPoll c) = is_none (slot_of slots c.device
 asks_unknown slots facts (command.StartRound c) =
     is_none (slot_of slots c.device) || is_none (option_and_then (list_of facts) c.device)
 
--- Refusal `Exists`: a device, register or meter already has the name that the command gives, or a
--- meter is open at the register.
+-- Refusal `Exists`: a device, accounting register or meter already has the name that the command
+-- gives, or the accounting register already has an open meter.
 abbrev pub asks_taken : List Slot → List Fact → Command → Bool
 asks_taken slots facts (command.AddDevice c) = is_some (slot_of slots c.name)
 asks_taken slots facts (command.AddRegister c) =
@@ -119,18 +119,19 @@ asks_bad_scale (command.Rescale c) = is_off_scale c.sf
 asks_bad_scale _ = false
 
 -- Refusal `NegativeStep`, `NotLater`, `SpanTooLong` or `TotalFull`: the command's entry has the
--- fault `why` after the meter's last entry. False if the command makes no entry.
+-- given fault when it follows the meter's last entry. False if the command makes no entry.
 abbrev pub has_fault : TermFault → Installation → Option Made → Bool
 has_fault why row None = false
 has_fault why row (Some made) = entering.refuses row.opening.range row.total row.last made.entry why
 
--- True if the command's entry has the fault `why` at an installed meter. False without a meter.
+-- True if the entry that a command makes for an installed meter has the given fault. False without
+-- a meter.
 abbrev pub makes_fault : (at : ℕ) → TermFault → Command → Option Installation → Bool
 makes_fault at why c None = false
 makes_fault at why c (Some row) = has_fault why row (made_by at row.last c)
 
--- True if the command's entry has the fault `why` at the open meter of the command's accounting
--- register (an energy counter).
+-- True if the entry that a command makes for the open meter of the command's accounting register
+-- (an energy counter) has the given fault.
 abbrev pub asks_faulty : List Fact → (at : ℕ) → TermFault → Command → Bool
 asks_faulty facts at why c = makes_fault at why c (option_and_then (open_at facts) (corrected_at c))
 
@@ -145,9 +146,9 @@ is_closed (Some row) = row.ended
 abbrev pub asks_ended : List Fact → Command → Bool
 asks_ended facts c = is_closed (option_and_then (installation_at facts) (corrected_at c))
 
--- True if polls can start on a device. The device is connected, and its session is ready. A session
--- is not ready if too many polls are pending, the next transaction identifier is pending, or its
--- stream is garbled.
+-- True if polls can start on a device: it is connected, and its session is ready. A session is not
+-- ready if too many polls are pending, the next transaction identifier is pending, or its stream is
+-- garbled.
 abbrev pub is_ready : Option Slot → Bool
 is_ready None = false
 is_ready (Some slot) = is_startable slot.device slot.present
@@ -157,7 +158,7 @@ abbrev pub can_start : List Slot → Option (List ℕ) → Bool
 can_start slots device = is_ready (slot_of slots device)
 
 -- Refusal `Busy`: the command starts polls, but its device is not connected or the device's session
--- cannot start one.
+-- cannot start a poll.
 abbrev pub asks_busy : List Slot → Command → Bool
 asks_busy slots (command.StartPoll c) = not (can_start slots c.device)
 asks_busy slots (command.StartRound c) = not (can_start slots c.device)
@@ -179,13 +180,13 @@ is_bad_address (given.Fixed sf) = false
 is_bad_address (given.Register address) = nat_lt LAST_ADDRESS address
 
 -- Refusal `Limit`: the name of a meter is invalid, its range or greatest power is out of range, or
--- its count is not below its range.
+-- its counter value is not below its range.
 abbrev pub is_bad_meter : (meter : Option (List ℕ)) → (range raw ceiling : ℕ) → Bool
 is_bad_meter meter range raw ceiling =
     is_none meter || is_outside MIN_RANGE MAX_RANGE range || nat_le range raw
     || is_outside 1 MAX_CEILING ceiling
 
--- Refusal `Limit`: the stated time of a reading by hand is later than the command.
+-- Refusal `Limit`: the stated time of a manual reading is later than the command.
 abbrev pub is_later : (at : ℕ) → Option ℕ → Bool
 is_later at None = false
 is_later at (Some given) = nat_lt at given
@@ -222,8 +223,8 @@ is_crowded slots facts (command.Exchange c) = nat_le installation_limit (length 
 is_crowded slots facts (command.StartRound c) = length (spans_by facts (command.StartRound c)) == 0
 is_crowded slots facts _ = false
 
--- Refusal `Limit`: a field of the command is out of range, a maximum is reached, or the command's
--- count is not below the range of the open meter.
+-- Refusal `Limit`: a field of the command is out of range, or a maximum is reached. The refusal
+-- also applies if the command's counter value is not below the range of the open meter.
 abbrev pub asks_beyond : List Slot → List Fact → (at : ℕ) → Command → Bool
 asks_beyond slots facts at c =
     asks_bad_field at c || is_crowded slots facts c || asks_faulty facts at fault.NotBelowRange c
@@ -245,7 +246,7 @@ asks_past_numbers slots facts at c =
     is_start c && nat_lt poll_limit (length (polls_in facts) + sent_count slots facts at c)
 
 -- Refusal `NotVoidable`: the entry to void (cancel) does not exist, is already voided, or is not a
--- reading from the device. The same reason applies if the next valid entry is not a reading from
+-- reading from the device. The refusal also applies if the next valid entry is not a reading from
 -- the device.
 abbrev pub is_not_voidable : Option EntryContext → Bool
 is_not_voidable None = true
@@ -263,8 +264,8 @@ abbrev pub asks_unvoidable : List Fact → Command → Bool
 asks_unvoidable facts (command.Void c) = is_not_voidable (voided_place facts (command.Void c))
 asks_unvoidable facts _ = false
 
--- The verdict on a later reading, judged directly after the meter's state `before`. An entry of the
--- kind `Change` has no verdict.
+-- The verdict on a reading, judged as if it directly followed the given state of its meter. A
+-- `Change` (a reset or rescale) has no verdict.
 abbrev pub verdict_between : Installation → Entry → Option Verdict
 verdict_between before (entry.Step at raw rolls) =
     Some (judgement before (reading_at before.last at raw))
@@ -277,11 +278,11 @@ verdict_at place =
     option_and_then
     (λ p. option_and_then (λ (next : EntryRow). verdict_between p.before next.entry) p.next) place
 
--- True if two causes of a rejection have the same number, which means that they are equal.
+-- True if two causes of a rejection have the same numeric code, which means that they are equal.
 abbrev pub same_cause : Cause → Cause → Bool
 same_cause a b = cause_number a == cause_number b
 
--- True if a verdict rejects a reading for the cause `why`. False without a verdict.
+-- True if a verdict rejects a reading for the given cause. False without a verdict.
 abbrev pub is_held_for : Cause → Option Verdict → Bool
 is_held_for why None = false
 is_held_for why (Some (verdict.Accepted rolls step)) = false
@@ -338,12 +339,12 @@ is_mistimed latest at refusal.ClockBack = nat_lt at latest
 is_mistimed latest at refusal.Limit = nat_lt moment_limit at
 is_mistimed latest at _ = false
 
--- True if a reason to refuse applies to an event after the accepted starts and events in `past`.
+-- True if a reason to refuse applies to an event after a list of accepted starts and events.
 abbrev pub refuses : History → (at : ℕ) → Event → Refusal → Bool
 refuses past at e why =
     is_mistimed (latest_of past) at why || is_wrong (slots_of past) (facts_of past) at e why
 
--- All causes for which a reading may be rejected, in the order of their numbers.
+-- All causes for which a reading may be rejected, in the order of their numeric codes.
 abbrev pub all_causes : List Cause
 all_causes = cause.NotAccumulated ∷ cause.ScaleChanged ∷ cause.NotLater ∷ cause.SpanTooLong
     ∷ cause.GapTooLong ∷ cause.TooFast
@@ -365,8 +366,7 @@ abbrev pub by_reply : Asked → Reply → Result CommandKind Refusal
 by_reply asked reply =
     if bytes_eq reply.request asked.request then Ok reply.kind else Err refusal.Reused
 
--- The answer to a request whose idempotency key is stored, or `None` for an event that is not a
--- retry.
+-- The answer to a request whose idempotency key is already stored, or `None` for any other event.
 abbrev pub kept_of : List Fact → Event → Option (Result CommandKind Refusal)
 kept_of facts (event.Asked asked) =
     option_map (by_reply asked)
@@ -374,7 +374,7 @@ kept_of facts (event.Asked asked) =
 kept_of facts _ = None
 
 -- The first reason to refuse an event after a list of accepted events, or `None` if no reason
--- applies. Retries are not considered.
+-- applies. Stored idempotency keys are not considered.
 abbrev pub refusal_of : History → (at : ℕ) → Event → Option Refusal
 refusal_of past at e = find (refuses past at e) reasons
 
@@ -386,8 +386,8 @@ opening_refusal_of facts at =
     else if nat_lt moment_limit at then Some refusal.Limit
     else None
 
--- True if an event is accepted after a list of accepted events. The event is not a retry, and no
--- reason to refuse it applies.
+-- True if an event is accepted after a list of accepted events. Its idempotency key, if any, is not
+-- stored yet, and no reason to refuse the event applies.
 pub record IsAccepted (past : History) (at : ℕ) (e : Event) : Type 0 where
   pub new : kept_of (facts_of past) e ≡ None
   pub right : refusal_of past at e ≡ None
@@ -421,7 +421,8 @@ answer_of slots facts at (event.Command c) = answer_to slots facts at c
 answer_of slots facts at (event.Asked asked) = answer_to slots facts at asked.command
 answer_of slots facts at _ = answer.Noted
 
--- The answer to a retry: the kind of the stored command, marked as a repeated answer, or a refusal.
+-- The answer to a request whose idempotency key is stored: the kind of the stored command, marked
+-- as a repeated answer, or a refusal.
 abbrev pub by_kept : Result CommandKind Refusal → Result Answer Refusal
 by_kept (Ok k) = Ok (answer.Again k)
 by_kept (Err why) = Err why
@@ -431,7 +432,8 @@ abbrev pub unless_refused : Answer → Option Refusal → Result Answer Refusal
 unless_refused given None = Ok given
 unless_refused given (Some why) = Err why
 
--- The answer to a retry if the event is a retry, otherwise the given answer.
+-- The answer to a request whose idempotency key is stored, if there is one, otherwise the given
+-- answer.
 abbrev pub unless_kept : Result Answer Refusal → Option (Result CommandKind Refusal)
     → Result Answer Refusal
 unless_kept given None = given

@@ -1,5 +1,5 @@
--- The interval rows (energy by quarter hour) of an accounting register in lawful records, which are
--- records that the rules accept one after another.
+-- The interval rows (energy by quarter hour) of an accounting register (an energy counter) in
+-- lawful records. The rules accept lawful records one after another.
 use Rattle.std.specs.Prelude.{ℕ, ◌≤◌, ◌<◌, ◌^◌, List, All}
 use Rattle.std.specs.List.Sorted.{IsNonDecreasingBy}
 use Rattle.interval_core.specs.declared.shares.Share.{Share}
@@ -9,9 +9,9 @@ use Rattle.office_books.specs.Facts.{moment_limit}
 use Rattle.office_books.specs.Intervals.{rows_of_register}
 use Rattle.office_books.specs.Lawful.{AreLawful}
 
--- True if the interval rows (energy by quarter hour) can be added up by civil day, row by row.
--- Their start times never fall, no start time exceeds the greatest timestamp, and the sum of their
--- energies fits in 128 bits.
+-- True if the interval rows (energy by quarter hour) can be added up by civil day, row by row. The
+-- conditions: start times never decrease, no start time exceeds the greatest timestamp, and the sum
+-- of the energies fits in 128 bits.
 pub record CanBeFolded (rows : List Share) : Type 0 where
   pub never_fall : IsNonDecreasingBy (λ row. row.start) rows
   pub moments : All (λ row. row.start ≤ moment_limit) rows

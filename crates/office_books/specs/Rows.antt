@@ -16,9 +16,9 @@ abbrev pub TakesFirst : {S T : Type 0} → (takes : S → T → S → Type 0) �
     → (after : S) → Type 0
 TakesFirst takes before rows after = (n : ℕ) × TakesAll takes before (take n rows) after
 
--- The guarantees of a query that passes rows to a sink. The sink receives the first of the expected
--- rows, and all of them if the query returns `Ok`. The query never changes the sink in any other
--- way.
+-- The guarantees of a query that passes rows to a sink. If the store is clean (every wrong result
+-- was detected), the sink receives the expected rows from the first on. It receives all of them if
+-- the query returns `Ok`. The query changes the sink in no other way.
 pub record HandsOn {S T : Type 0} (takes : S → T → S → Type 0) (old new : Ledger)
     (before after : S)
     (result : Result (Unit {0}) BooksFault) (rows : List Fact → List T) : Type 0 where

@@ -7,8 +7,8 @@ use Rattle.office_books.specs.Facts.{devices_in, registers_in, openings_in, hold
 use Rattle.office_books.specs.Meters.{rows_of}
 use Rattle.office_books.specs.Ledgers.{Ledger}
 
--- True if two lists of records yield the same rows of each database table, for some tables in any
--- order. Each installed meter has the same entry rows in both lists.
+-- True if two lists of records yield the same rows of each database table, possibly in another
+-- order for some tables. Each installed meter has the same entry rows in both lists.
 pub record AreSame (facts others : List Fact) : Type 0 where
   pub devices : devices_in facts ≡ devices_in others
   pub lists : (device : List ℕ) → list_of facts device ≡ list_of others device
@@ -22,8 +22,8 @@ pub record AreSame (facts others : List Fact) : Type 0 where
   pub outcomes : IsPermutation (ended_in facts) (ended_in others)
   pub replies : IsPermutation (replies_in facts) (replies_in others)
 
--- True if all lists of records that an open store without undetected faults may contain yield the
--- same database tables.
+-- States that an open and clean store (every wrong result was detected) determines its tables: all
+-- lists of records that the store may have yield the same tables.
 abbrev pub AreKnown : Ledger → Type 0
 AreKnown books =
     (known others : List Fact) → books.is_clean → books.is_open → books.holds known

@@ -69,8 +69,8 @@ pub record Send : Type 0 where
 abbrev pub start_by : (at : ℕ) → Device → Send → session.Event
 start_by at device send = session.Start at send.number device.unit (span_view send.span)
 
--- The reads that a session can start, from the first of `spans` up to the first read that the
--- session refuses.
+-- The reads that a session can start: the given reads before the first read that the session
+-- refuses.
 abbrev pub sends_on : (number at : ℕ) → Device → List session.Event → List ReadSpan → List Send
 sends_on number at device before [] = []
 sends_on number at device before (span ∷ spans) =

@@ -24,8 +24,8 @@ use Rattle.office_books.specs.Ledgers.{Ledger, OnlyReads}
 abbrev pub as_begun : Opening → Installation
 as_begun opening = record { opening = opening; last = opened opening; total = 0; ended = false }
 
--- True if the range, the maximum power, the count and the scale factor of an opening (installation
--- record) are in range.
+-- True if the range, the maximum power, the counter value and the scale factor of an opening
+-- (installation record) are in range.
 pub record HasNumbers (opening : Opening) : Type 0 where
   pub range : (MIN_RANGE ≤ opening.range) × (opening.range ≤ MAX_RANGE)
   pub ceiling : (1 ≤ opening.ceiling) × (opening.ceiling ≤ MAX_CEILING)
@@ -57,14 +57,15 @@ MayEnter row e =
     entered row.opening.range row.total row.last e
     ≡ Ok (after row.last e, step_to row.opening.range row.last e)
 
--- True if `moved` is the meter's state after the entry, with the energy of the entry added. An
--- entry that is not admissible is not considered.
+-- States that, if the entry is admissible, `moved` is the meter's state after the entry, with the
+-- energy of the entry added. States nothing otherwise.
 abbrev pub MovesBy : Entry → (row moved : Installation) → Type 0
 MovesBy e row moved =
     (last : Last) (step : Step) → entered row.opening.range row.total row.last e ≡ Ok (last, step)
     → (moved.last ≡ last) × (moved.total ≡ row.total + step.mwh)
 
--- True if an inadmissible entry leaves the meter's state unchanged.
+-- States that, if the entry is inadmissible, it leaves the meter's state unchanged. States nothing
+-- otherwise.
 abbrev pub StaysAt : Entry → (row moved : Installation) → Type 0
 StaysAt e row moved =
     (fault : TermFault) → entered row.opening.range row.total row.last e ≡ Err fault → moved ≡ row

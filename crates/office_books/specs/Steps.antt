@@ -38,9 +38,9 @@ abbrev pub HoldsChangeNothing : Type 0
 HoldsChangeNothing = (held : HeldReading) (facts : List Fact) (opening : Opening)
     → Stays (fact.Hold held) facts opening
 
--- True if the opening (installation record) installs its meter. The meter is found by its name and
--- at its accounting register (an energy counter). Its counter has the state of the opening, its
--- energy is 0, and it has no rows.
+-- States that adding an opening (installation record) installs its meter. The meter is found by its
+-- name and by its accounting register (an energy counter). Its counter has the state of the
+-- opening, its energy is 0, and it has no rows.
 pub record Begins (facts : List Fact) (opening : Opening) : Type 0 where
   pub by_name : opening_of (fact.Opening opening ∷ facts) opening.meter ≡ Some opening
   pub at_register : installed_at (fact.Opening opening ∷ facts) opening.register ≡ Some opening

@@ -17,8 +17,7 @@ use Rattle.office_books.specs.Meters.{opened, installed, journal_of, rows_of, in
 -- entry, otherwise it keeps its state.
 --
 -- The energy of the steps to and from the voided entry is subtracted from the total energy and from
--- the energy by quarter hour. The energy of the direct step between the entry's neighbours is
--- added.
+-- the energy by quarter hour. The energy of the direct step between the entry's neighbors is added.
 pub record GivesWay (voided : VoidedEntry) (facts : List Fact) (opening : Opening) : Type 0 where
   pub around : Around
   pub found : entry_at facts voided.meter voided.place ≡ Some (place_in facts opening around)

@@ -35,11 +35,12 @@ pub enum Repeat {
 ///
 /// A lookup reads the records and never changes them. `book` adds all of its records, or none.
 ///
-/// The postconditions on results require `is_clean` after the call: the storage returned what was
-/// written to it. A store in memory is always clean.
+/// The postconditions on results apply only if the store is clean (`is_clean`) after the call: the
+/// storage returned what was written to it. A store in memory is always clean.
 ///
-/// Without `is_clean` four guarantees remain. The store counts failures, and a lookup changes no
-/// records. The time zone stays the same, and all numbers of an installation are in range.
+/// If the store is not clean, four guarantees remain. The store counts failures, and a lookup
+/// changes no records. The time zone stays the same, and all numbers of an installation are in
+/// range.
 pub trait Books: Drop {
     ghost use Rattle.std.specs.Prelude.{◌≡◌, List, reverse, length};
     ghost use Rattle.std.specs.List.{filter};
@@ -73,7 +74,7 @@ pub trait Books: Drop {
         ensures { result ≡ (ledger self.now).zone };
 
     /// Proves that two lists of records yield the same database tables, if an open store without
-    /// undetected faults may contain both lists.
+    /// undetected faults may contain each of the two lists.
     fn tables_are_known(&self)
         ensures { AreKnown (ledger self.now) };
 
@@ -83,7 +84,7 @@ pub trait Books: Drop {
             (λ known v. v.items ≡ reverse (devices_in known)) }
         ensures reads { OnlyReads (ledger self.old) (ledger self.new) result };
 
-    /// Returns the point list of a device, with the reads of its plan.
+    /// Returns the point list of a device, with the Modbus reads that cover its points.
     fn list(&mut self, device: &Name) -> Result<Option<PlannedList>, BooksFault>
         ensures found { Finds (ledger self.old) (ledger self.new) result
             (λ known list. list ≡ list_of known device.now) }
@@ -135,15 +136,15 @@ pub trait Books: Drop {
             (λ known row. row ≡ meter_of known name.now) }
         ensures reads { ReadsInstallation (ledger self.old) (ledger self.new) result };
 
-    /// Returns the latest meter at an accounting register (an energy counter), open or closed, with
-    /// its state, or `None` if no meter was installed there.
+    /// Returns the latest meter, open or closed, that was installed at an accounting register (an
+    /// energy counter), with its state. Returns `None` if no meter was installed there.
     fn installation(&mut self, register: &Name) -> Result<Option<Installation>, BooksFault>
         ensures found { Finds (ledger self.old) (ledger self.new) result
             (λ known row. row ≡ installation_at known register.now) }
         ensures reads { ReadsInstallation (ledger self.old) (ledger self.new) result };
 
-    /// Returns the meters at an accounting register (an energy counter) with their state, in order
-    /// of installation, closed meters included.
+    /// Returns the meters that were installed at an accounting register (an energy counter), with
+    /// their state. They are in order of installation, and include closed meters.
     fn meters(&mut self, register: &Name) -> Result<Vec<Installation>, BooksFault>
         ensures found { Finds (ledger self.old) (ledger self.new) result
             (λ known v. v.items ≡ installations_of known register.now) }
@@ -163,7 +164,7 @@ pub trait Books: Drop {
             (λ known row. row ≡ entry_at known meter.now place) }
         ensures reads { ReadsPlace (ledger self.old) (ledger self.new) result };
 
-    /// Returns the entry of a meter with a sequence number, reading only the rows around the entry.
+    /// Returns the entry of a meter with a sequence number. Reads only the rows around the entry.
     /// The meter's state in the result has the present total energy, which is at least the energy
     /// before the entry.
     fn entry_near(&mut self, meter: &Name, place: u64) -> Result<Option<EntryContext>, BooksFault>

@@ -25,7 +25,7 @@ impl Display for StoreFault {
 
 impl Error for StoreFault {}
 
-/// The cause of a failed call of the store: a failure of the store, or a lack of memory.
+/// The cause of a failed call to the store: a failure of the store, or a lack of memory.
 #[derive(Clone, Copy, Debug, PartialEq, Eq)]
 pub enum BooksFault {
     Store(StoreFault),

@@ -15,8 +15,9 @@ pub fn facts_are_lawful()
     meters_are_kept();
 }
 
-/// Proves that no two devices, registers or meters have the same name in records that the rules
-/// accept. The open meter at an accounting register is the latest meter at this register.
+/// Proves that no two devices, accounting registers or meters have the same name in records that
+/// the rules accept. The open meter of an accounting register is the latest meter that was
+/// installed there.
 pub fn names_are_distinct()
     ensures { NamesAreDistinct }
 {}

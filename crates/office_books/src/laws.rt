@@ -7,8 +7,8 @@ use meter_journal::{
     places_were_kept, rows_are_kept, truth_is_kept, voids_leave_no_trace as journal_voids,
 };
 
-/// Proves that the rules for a meter's journal (history) accept each line after the earlier lines.
-/// The premise is that the records are lawful, so that the rules accept each record.
+/// Proves that, if the records are lawful, the rules for a meter's journal (history) accept each
+/// line after the earlier lines.
 pub fn journals_fit()
     ensures { JournalsFit }
 {}
@@ -17,7 +17,8 @@ pub fn journals_fit()
 /// last value less the first, plus a full range for each recorded rollover, plus the differences
 /// that resets and rescales record.
 ///
-/// Voided (cancelled) entries do not count, and the energies by quarter hour add up to the energy.
+/// Voided (cancelled) entries do not count, and the energies by quarter hour add up to the meter's
+/// total energy.
 pub fn meters_are_kept()
     ensures { MetersAreKept }
 {
@@ -45,14 +46,14 @@ pub fn voids_leave_no_trace()
     journal_voids();
 }
 
-/// Proves that no timestamp, poll number or request number exceeds its limit in records that the
-/// rules accept.
+/// Proves that no timestamp, poll number or number of an idempotency key exceeds its limit in
+/// records that the rules accept.
 pub fn facts_are_bounded()
     ensures { FactsAreBounded }
 {}
 
-/// Proves that the counts, scale factors and energies of each meter are in range, now and before
-/// each entry. The premise is that the rules accept all records.
+/// Proves that, if the rules accept all records, the counter values, scale factors and energies of
+/// each meter are in range. This holds now and before each entry.
 pub fn installations_are_in_range()
     ensures { InstallationsAreInRange }
 {

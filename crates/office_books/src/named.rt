@@ -63,8 +63,8 @@ pub fn reads_at<B: Books>(
     }
 }
 
-/// Returns the latest meter at the named accounting register with its state, or `None` if the name
-/// is invalid or no meter was installed there.
+/// Returns the latest meter that was installed at the named accounting register (an energy
+/// counter), with its state. Returns `None` if the name is invalid or no meter was installed there.
 pub fn meter_at<B: Books>(
     books: &mut B,
     given: &Option<Name>,

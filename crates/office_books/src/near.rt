@@ -5,7 +5,7 @@ ghost use Rattle.office_books.specs.Ranges.{IsSound};
 
 use office_events::{EntryContext, Installation};
 
-/// Returns the entry with its meter's total energy in place of the meter's energy before the entry.
+/// Returns the entry with its meter's total energy instead of the meter's energy before the entry.
 pub fn with_whole_energy(place: &EntryContext, whole: &Installation) -> EntryContext
     ensures same { result ≡ with_energy whole.now.total place.now }
     ensures sound { IsSound place.now.before → IsSound whole.now → IsSound result.before }

@@ -53,8 +53,8 @@ pub fn after_entry(row: &Installation, entry: &Entry) -> Installation
     }
 }
 
-/// Returns the state of a meter after a stored entry, which closes the meter if it is a closing
-/// entry. A state with a number out of range is returned unchanged.
+/// Returns the state of a meter after a stored entry. A closing entry closes the meter. A state
+/// with a number out of range is returned unchanged.
 pub fn moved(row: &Installation, booked: &BookedEntry) -> Installation
     ensures { IsSound row.now → MayEnter row.now booked.now.entry
         → result ≡ moved_by booked.now.kind booked.now.entry row.now }

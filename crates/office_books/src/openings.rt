@@ -8,7 +8,8 @@ use energy_core::Last;
 use meter_journal::Installed;
 use office_events::{Installation, Opening};
 
-/// Returns the state of a meter's counter at its installation: timestamp, count and scale factor.
+/// Returns the state of a meter's counter at its installation: timestamp, counter value and scale
+/// factor.
 pub fn opened(opening: &Opening) -> Last
     ensures { result ≡ meters.opened opening.now }
 {

@@ -8,7 +8,7 @@ use meter_journal::{
 };
 
 /// Proves that the start times of an accounting register's interval rows (energy by quarter hour)
-/// never fall, even from one meter to the next. Therefore the rows can be added up by day.
+/// never decrease, even from one meter to the next. Therefore the rows can be added up by day.
 pub fn registers_are_in_turn()
     ensures { RegistersAreInTurn }
 {

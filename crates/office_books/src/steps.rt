@@ -21,8 +21,8 @@ pub fn openings_begin()
     ensures { OpeningsBegin }
 {}
 
-/// Proves what a new entry changes: the last reading of its meter, the meter's entry rows, and the
-/// energy of the quarter hours over which the entry's energy is spread.
+/// Proves what a new entry changes: the counter's state, the meter's entry rows, and the energy of
+/// the quarter hours over which the entry's energy is spread.
 pub fn entries_move_on()
     ensures { EntriesMoveOn }
 {
@@ -31,7 +31,7 @@ pub fn entries_move_on()
 
 /// Proves the effect of a void (cancellation of an entry) on the meter. The rows of the voided
 /// entry and of the next valid entry change. In the meter's energy, one step between the entry's
-/// neighbours replaces the steps to and from the entry.
+/// neighbors replaces the steps to and from the entry.
 pub fn voided_entries_give_way()
     ensures { VoidedEntriesGiveWay }
 {

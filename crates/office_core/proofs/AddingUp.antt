@@ -28,8 +28,8 @@ changed : (before after r s f : ℕ) (d : ℤ) → pos r -ℤ pos s ≡ pos f +�
 changed before after r s f d h = omega (arith, ints)
 
 -- The energy that a meter's entries record, minus the values to which these entries set the
--- counter, equals two terms. They are the full ranges of rollovers, and the differences at resets
--- and changes of scale.
+-- counter, equals the sum of two terms. The terms are the full ranges of the rollovers, and the
+-- differences (old value minus new value) at resets and changes of scale.
 recorded_is : (range : ℕ) (first : Last) (es : List Entry)
     → pos (recorded range first es) -ℤ pos (set_anew es) ≡ pos (full_ranges range first es) +ℤ differences first es
 recorded_is range first [] = refl

@@ -20,8 +20,8 @@ pub reads_lacking : {T U : Type 0} (a b : Ledger) (x : T) (r : Result U BooksFau
 reads_lacking a b x (Ok y) reads lacks = absurd lacks
 reads_lacking a b x (Err fault) reads lacks = reads_without a b x (Err fault) reads lacks
 
--- If memory runs out before the first call of the store, then the store is unchanged. This meets
--- the guarantees of a sequence of calls of the store.
+-- If memory runs out before the first call to the store, then the store is unchanged. This meets
+-- the guarantees of a sequence of calls to the store.
 pub passes_lacking : {U : Type 0} (a : Ledger) (r : Result U BooksFault) → IsErrAnd r (λ fault. fault ≡ Memory) → LedgerAfterCalls a a r
 passes_lacking a (Ok y) lacks = absurd lacks
 passes_lacking {U} a (Err fault) lacks =
@@ -30,7 +30,7 @@ passes_lacking {U} a (Err fault) lacks =
 pub asks_lacking : {U : Type 0} (a : Ledger) (r : Result U BooksFault) → IsErrAnd r (λ fault. fault ≡ Memory) → Consults a a r
 asks_lacking a r lacks = record { goes = passes_lacking a r lacks; keeps = record { facts = λ known h. h; left = λ left may. may } }
 
--- If a function returns the failure of a call of the store, then the guarantees of the failed call
+-- If a function returns the failure of a call to the store, then the guarantees of the failed call
 -- also hold for the function.
 pub passes_as : {T U : Type 0} (a b : Ledger) (fault : BooksFault) (r : Result U BooksFault) → LedgerAfterCalls {T = T} a b (Err fault) → IsErrAnd r (λ f. f ≡ fault)
     → LedgerAfterCalls a b r

@@ -18,7 +18,8 @@ m1 = 109 ∷ 49 ∷ []
 abbrev main : List ℕ
 main = 109 ∷ 97 ∷ 105 ∷ 110 ∷ []
 
--- The example meter, installed at the count 4294967000, which is 296 counts before a rollover.
+-- The example meter, installed at the counter value 4294967000, which is 296 counts before a
+-- rollover.
 abbrev meter : Opening
 meter = record { meter = m1; register = main; ceiling = 100000; range = 4294967296; at = 1000; raw = 4294967000; sf = pos 0 }
 

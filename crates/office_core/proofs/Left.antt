@@ -62,8 +62,8 @@ moved_not old new next past why moves is_past clean stand = record {
   leaves = leaves_err new next past stand.leaves.left stand.leaves.each is_past (moves.under_way stand.leaves.left stand.holds clean stand.leaves.may);
 }
 
--- After a successful call of the store, the store has the records of all accepted events after a
--- crash, the new event included.
+-- If a call to the store succeeds, then after a crash the store has the records of all accepted
+-- events, including the new event.
 pub done_left : {T : Type 0} (old new : Ledger) (next : Accepted) (past : History) (x : T) → Moves old new (facts_of past) (facts_of (next ∷ past)) (Ok x)
     → new.is_clean → BooksStand old past → Leaves old new (LeftOnceDone past next)
 done_left old new next past x moves clean stand = λ before may. elim (moves.settled before stand.holds clean may) [
@@ -78,7 +78,7 @@ failed_left old new next past why moves is_past clean stand = λ before may. eli
   | inr more ↦ (before ++ facts_of (next ∷ past) ∷ [], inr (is_past, refl), more)
 ]
 
--- A lookup before a call of the store does not change which records the store may have after a
+-- A lookup before a call to the store does not change which records the store may have after a
 -- crash.
 pub read_first : {T : Type 0} (old between new : Ledger) (result : Result T BooksFault) (so : (before after : List (List Fact)) → Type 0)
     → OnlyReads old between result → Leaves between new so → Leaves old new so

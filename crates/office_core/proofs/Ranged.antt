@@ -1,5 +1,5 @@
--- Lemmas about the energy of each civil day in a range. It can be computed from the interval rows
--- (energy by quarter hour) of a time span around the range.
+-- Lemmas about the energy of each civil day in a range. The energy can be computed from the
+-- interval rows (energy by quarter hour) of a time span around the range.
 use Rattle.std.proofs.Common.{◌≡◌, ℕ, ◌<◌, Bool, true, false, cond, Some, None, List, [], ◌∷◌, length, refl, sym, ap, subst, ◌∙◌, inl, inr, arith}
 use Rattle.std.specs.Prelude.{ℤ, ◌<ℤ◌, ◌&&◌, Contains, filter, map}
 use Rattle.std.specs.Ordering.{int_eq}
@@ -19,8 +19,8 @@ use Rattle.office_books.specs.declared.spans.Span.TheVariants as span
 use Rattle.office_books.specs.Spans.{is_within, rows_within}
 use Rattle.office_core.specs.DayRange.{accounts_within}
 
--- Lemmas on two filters in a row. If the first filter keeps all elements that the second keeps,
--- then the second filter alone has the same result.
+-- Lemmas on two filters that are applied in sequence. If the first filter keeps all elements that
+-- the second keeps, then the second filter alone has the same result.
 
 filter_through : {X : Type 0} (p q : X → Bool) → ((x : X) → p x ≡ true → q x ≡ true) → (xs : List X) → filter p (filter q xs) ≡ filter p xs
 filter_through p q through [] = refl
@@ -163,7 +163,7 @@ by_test : (asked : Span) (rows : List Share) → rows_within asked rows ≡ filt
 by_test span.All rows = sym (all_kept rows)
 by_test (span.Between from till) rows = refl
 
--- A test whether a date is in a range of dates equals the test by day numbers.
+-- The test whether a date is in a range of dates gives the same result as the test by day numbers.
 is_in_number : (range : DayRange) (total : DayTotal) → is_in range total.day ≡ has_day range (account_of total).day
 is_in_number range total =
     elim range.from as (λ from. (begins_by from total.day && ends_after range.till total.day)

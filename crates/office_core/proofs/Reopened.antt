@@ -22,7 +22,7 @@ use Rattle.office_core.proofs.Taken.{books_failed, failed_outside}
 opened_past : (past : History) (at : ℕ) → IsPast past → opening_refusal_of (facts_of past) at ≡ None → IsPast (Opened at ∷ past)
 opened_past past at is none = record { accepted = (none, is.accepted); planned = is.planned }
 
--- Suppose that an opening of the program failed because the store failed or memory ran out. After a
+-- Suppose that an opening of the store failed because the store failed or memory ran out. After a
 -- crash the store has the opening's records or none of them.
 opening_failed : (old new : Ledger) (past : History) (at : ℕ) (why : BooksFault) → Leaves old new (LeftOnceFailed past (Opened at))
     → Leaves old new (LeftByOpening {T = Unit {0}} past at (Err (as_refusal why)))
@@ -46,15 +46,14 @@ not_asked {T = T} past at old new fault why reads stand is =
     subst (IsNotOpened past at old new) (sym is)
     (record { books = read_stand old new past (Err fault) reads stand; leaves = read_left old new past at (Err fault) (as_refusal fault) reads; reason = inr (books_failed T (opening_refusal_of (facts_of past) at ≡ None) _ _ fault reads.goes.faults) })
 
--- If an opening of the program is refused for its timestamp, then the store's records are
--- unchanged.
+-- If an opening of the store is refused for its timestamp, then the store's records are unchanged.
 pub refused : {T : Type 0} (past : History) (at : ℕ) (old new : Ledger) (x : T) (why : Refusal) → OnlyReads old new (Ok x)
     → BooksStand old past → Some why ≡ opening_refusal_of (facts_of past) at → IsNotOpened past at old new why
 refused past at old new x why reads stand is =
     record { books = read_stand old new past (Ok x) reads stand; leaves = read_left old new past at (Ok x) why reads; reason = inl (sym is, reads.goes.faults) }
 
--- Suppose that no reason to refuse an opening of the program applies, and the opening succeeds.
--- Then the store has the opening's records, and each device has a slot for its connection.
+-- Suppose that no reason to refuse an opening of the store applies, and the opening succeeds. Then
+-- the store has the opening's records, and each device has a slot for its connection.
 pub reopened : {T : Type 0} (past : History) (at : ℕ) (old between new : Ledger) (x : T) (slots : Vec Slot Global) → OnlyReads old between (Ok x)
     → BooksStand old past → None ≡ opening_refusal_of (facts_of past) at → new.is_clean
     → (MayOpen past at → Opens past at between new (Ok slots)) → IsReopened past at old new slots.items

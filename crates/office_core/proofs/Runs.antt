@@ -1,5 +1,5 @@
 -- Lemmas about a run, in which the program processes a list of events. If a guarantee of the run
--- holds so far, it also holds after one more event.
+-- holds after its first events, it also holds after one more event.
 use Rattle.std.proofs.Common.{◌≡◌, ◌↔◌, ◌||◌, ℕ, ◌+◌, ◌<◌, Bool, true, false, List, [], ◌∷◌, ◌++◌, take, length, ◌≤◌, get_or, Result, Err, refl, ap, sym, subst, ◌∙◌, arith, take_all}
 use Rattle.std.specs.Prelude.{All, IfErr}
 use Rattle.std.proofs.lemmas.List.{take_more}
@@ -63,8 +63,8 @@ left_push past before between after [] one h k = (after, rw (sym h) k, refl)
 left_push past before between after (f ∷ fed) one h k =
     (h.0, h.1, left_push (with_answer past f.at f.event f.result) h.0 between after fed one h.2 k)
 
--- If the records that may remain after a crash changed as the answers so far require, then they
--- also do after one more event.
+-- Suppose that the records that may remain after a crash changed as the answers of a run require.
+-- Then the same holds after one more event of the run.
 run_push : (old between new : Ledger) (past : History) (opened : ℕ) (fed : List Answered) (one : Answered)
     → Leaves old between (LeftByRun past opened fed)
     → Leaves between new (LeftByEvent (history_after (Opened opened ∷ past) fed) one.at one.event one.result)
@@ -126,8 +126,8 @@ pub record Feeds {B : Type 0} (ledger : B → Ledger) (old new : Office B) (one 
       → IsQuiet old new one.result
   pub ends : Ends ledger old new one.event one.result
 
--- If an event is of a kind that ends no poll, then its answer is not a failure, whether the program
--- is running or has stopped.
+-- If an event requests no command and ends no poll, then its answer reports no failure, whether the
+-- program is running or has stopped.
 not_failing : {B : Type 0} (ledger : B → Ledger) (past : History) (old new : Office B) (one : Answered) → Feeds ledger old new one
     → Stands ledger past old → SettlesNothing past one.at one.event → (stopped : Bool) → is_stopped old ≡ stopped
     → is_failure one.result ≡ false

@@ -1,4 +1,4 @@
--- Lemmas about several queries in a row, each made only if the query before it succeeded.
+-- Lemmas about several queries in sequence, each made only if the query before it succeeded.
 use Rattle.std.proofs.Common.{◌≡◌, inl, inr, true, Option, Some, None, refl, sym, ap, subst, ◌∙◌}
 use Rattle.std.specs.Prelude.{Result, Ok, Err}
 use Rattle.office_events.specs.declared.refusals.Refusal.{Refusal}
@@ -13,7 +13,7 @@ use Rattle.office_core.specs.Taking.{failures_of}
 use Rattle.office_core.specs.declared.office.Office.{Office}
 use Rattle.office_core.proofs.Taken.{outside_more}
 
--- Lemmas on the results of several queries in a row.
+-- Lemmas on the results of several queries in sequence.
 
 abbrev value_of : {T : Type 0} → Result T Refusal → Option T
 value_of (Ok x) = Some x
@@ -55,7 +55,7 @@ refused_on {T} {U} few many f g before mid after why more nothing same (inl is) 
 refused_on few many f g before mid after why more nothing same (inr fails) =
     inr (subst (λ was. IsOutside many was after why) same (outside_more few many mid after why more fails))
 
--- Lemmas on the program's state after several queries in a row.
+-- Lemmas on the program's state after several queries in sequence.
 
 module _ {B : Type 0} (ledger : B → Ledger) where
   pub unasked : (a : Office B) → Keeps ledger a a
@@ -98,7 +98,7 @@ module _ {B : Type 0} (ledger : B → Ledger) where
   }
 
   -- If a query follows other successful queries, then all of them together have the same effect on
-  -- the program's state as this query alone.
+  -- the program's state as the last query alone.
   pub asked_after : {T : Type 0} (a b c : Office B) (result : Result T Refusal) → Keeps ledger a b → OnlyAsks ledger b c result → OnlyAsks ledger a c result
   asked_after a b c result first more = record {
     stands = λ past stands. more.stands past (first.stands past stands);

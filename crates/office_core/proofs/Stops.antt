@@ -19,8 +19,8 @@ use Rattle.office_core.specs.Stopping.{AreOfEvents, AreOfBefore, EventsAreLeftWh
 abbrev Lists : Type 0
 Lists = List (List Fact)
 
--- True if the event failed, and `facts` are the earlier records with those of this event. The store
--- may have these records after a crash.
+-- True if the event failed, and `facts` are the earlier records together with those of this event.
+-- The store may have these records after a crash.
 record IsOfOne (past : History) (at : ℕ) (e : Event) (result : Result Answer Refusal) (facts : List Fact) : Type 0 where
   failed : is_failure result ≡ true
   stays : with_answer past at e result ≡ past
@@ -41,9 +41,9 @@ is_only only facts has = elim (Contains-push_cases [] only facts has) [
   | inr is ↦ sym is
 ]
 
--- After an accepted event or opening of the program, a crash leaves the records with those of this
--- event. If the event added no record, a crash may also leave any records that it could leave
--- before.
+-- After an accepted event or opening of the store, a crash leaves the records including those of
+-- this event. If the event added no record, a crash may also leave any records that it could leave
+-- before the event.
 once_done : (past : History) (next : Accepted) (before after : Lists) (facts : List Fact) → LeftOnceDone past next before after → Contains after facts
     → (facts ≡ facts_of (next ∷ past)) ⊎ ((facts_of (next ∷ past) ≡ facts_of past) × Contains before facts)
 once_done past next before after facts (inl is) has =
@@ -81,8 +81,9 @@ of_one past at e (Err (refusal.Store why)) before after facts left has = of_fail
 of_one past at e (Err refusal.Memory) before after facts left has = of_failed past at e refusal.Memory before after facts refl left has
 of_one past at e (Err why) before after facts left has = of_same past at e (Err why) before after facts refl left has
 
--- If all events of a list but the first added no record, then a crash leaves the records of the
--- list. If the first event added no record either, a crash may leave records from before the list.
+-- Suppose that no event of a list added a record, except possibly the first. Then a crash leaves
+-- the records of the list's events. If the first event added no record either, a crash may leave
+-- records from before the list.
 of_first : (past : History) (fed : Answered) (later : List Answered) (before : Lists) (facts : List Fact)
     → facts_of (history_after past (fed ∷ later)) ≡ facts_of (with_answer past fed.at fed.event fed.result)
     → ComesFrom past fed.at fed.event fed.result before facts
@@ -117,8 +118,8 @@ left_whole past (fed ∷ later) before after facts left has =
 pub events_left : EventsAreLeftWhole
 events_left past fed before after left = λ k d less. left_whole past fed before after _ left (Contains-get_or after k d less)
 
--- After a run of events, a crash leaves the records of the opening of the program and of the
--- events. If no record was added, a crash may leave records from before the run.
+-- After a run of events, a crash leaves the records of the opening of the store and of the events.
+-- If no record was added, a crash may leave records from before the run.
 opened_first : (past : History) (opened : ℕ) (fed : List Answered) (before between : Lists) (facts : List Fact) → LeftOnceDone past (Opened opened) before between
     → AreOfEvents (Opened opened ∷ past) fed facts ⊎ AreOfBefore (Opened opened ∷ past) (history_after (Opened opened ∷ past) fed) between facts
     → AreOfEvents (Opened opened ∷ past) fed facts ⊎ AreOfBefore past (history_after (Opened opened ∷ past) fed) before facts

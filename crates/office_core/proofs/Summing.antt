@@ -98,7 +98,8 @@ pub no_earlier : (zone : Zone) (rows : List Share) (fold : FoldState) (latest : 
     → MayFollow rows row → unwrap_or latest 0 ≤ row.start
 no_earlier zone rows fold latest row same taken may = after_latest rows latest row (subst (IsLatest rows) same taken.latest) may
 
--- The days in the sums by civil day equal the civil days of the added interval rows.
+-- The days in the sums by civil day are the civil days of the added interval rows, with their
+-- energy.
 days_by : (failed : Option DayFault) (old new : Ledger) (zone : Zone) (rows : List Share) (fold : FoldState)
     (result : Result (Vec DayTotal Global) Refusal) → new.failures ≡ old.failures → UnlessFailed failed (HasTaken zone rows fold)
     → EndsAs failed fold.accounts result

@@ -33,8 +33,8 @@ use Rattle.office_core.specs.Standing.{Goes, notes_in, outgoing_in}
 use Rattle.office_core.specs.Taking.{LeavesEvent, MayTake, Takes}
 use Rattle.office_core.proofs.Left.{moved_on, moved_not, done_left, failed_left}
 
--- If an event is accepted, then the answer to the event is neither a refusal nor the stored answer
--- to a retry.
+-- If an event is accepted, then its answer is not a refusal, and it is not the stored answer to a
+-- retry.
 pub accepted_decision : (past : History) (at : ℕ) (e : Event) → IsAccepted past at e → decision_of past at e ≡ Ok (answer_of (slots_of past) (facts_of past) at e)
 accepted_decision past at e accepted =
     ap (λ kept. unless_kept (unless_refused (answer_of (slots_of past) (facts_of past) at e) (refusal_of past at e)) kept) accepted.new
@@ -56,8 +56,8 @@ by_answer So started done noted slots facts at (event.Gone given closing) = note
 by_answer So started done noted slots facts at (event.Command c) = by_start So started done (is_start c) _ _ _ _
 by_answer So started done noted slots facts at (event.Asked asked) = by_start So started done (is_start asked.command) _ _ _ _
 
--- Suppose that the program can have accepted a list of events, and one more event is accepted. Then
--- it can have accepted the list with this event.
+-- Suppose that a list of events is a possible history: each event was accepted after the earlier
+-- ones. If one more event is accepted, the list with this event is also a possible history.
 pub one_more_past : (past : History) (at : ℕ) (e : Event) → IsPast past → IsAccepted past at e → PutsPlanned (command_in e) → IsPast (Fed at e ∷ past)
 one_more_past past at e is accepted planned = record { accepted = (accepted, is.accepted); planned = (planned, is.planned) }
 
@@ -166,7 +166,7 @@ unnoted number at (event.Gone given closing) slots facts asks = absurd (cc)
 unnoted number at (event.Command c) slots facts asks = refl
 unnoted number at (event.Asked asked) slots facts asks = refl
 
--- If no call of the store fails, then an accepted event has the answer, the records and the
+-- If no call to the store fails, then an accepted event has the answer, the records and the
 -- notifications that the definitions require.
 pub taken : {B T : Type 0} (ledger : B → Ledger) (past : History) (at : ℕ) (e : Event) (old new : Office B) (x : T) (given : Answer)
     → MayTake ledger past e old → IsAccepted past at e → (ledger new.books).is_clean
@@ -197,7 +197,7 @@ taken ledger past at e old new x given may accepted clean moves is latest slots 
       reported = record { notes = notes ∙ sym reported; outgoing = outgoing ∙ sym sent };
     }
 
--- If a call of the store fails, then the program reports the failure correctly.
+-- If a call to the store fails, then the program reports the failure correctly.
 pub not_taken : {B T : Type 0} (ledger : B → Ledger) (past : History) (at : ℕ) (e : Event) (old new : Office B) (fault : BooksFault) (why : Refusal)
     → MayTake ledger past e old → IsAccepted past at e → (ledger new.books).is_clean
     → Moves {T = T} (ledger old.books) (ledger new.books) (facts_of past) (facts_of (Fed at e ∷ past)) (Err fault)

@@ -40,8 +40,9 @@ abbrev pub answered : {T : Type 0} → Result (Option T) BooksFault → Result T
 answered (Ok found) = or_not_found found
 answered (Err why) = Err (as_refusal why)
 
--- True if the result of a query for one row is correct. Without a failure, it is the row or
--- `NotFound`. Otherwise it reports the failure of the store or of memory.
+-- True if the result of a query for one row is the row, `NotFound` because the row does not exist,
+-- or a correct report. A report says that the store failed, memory ran out or the program has
+-- stopped.
 abbrev pub IsFound : {T : Type 0} → (takes_memory : Type 0) → Option T → (before after : Failures)
     → Result T Refusal → Type 0
 IsFound takes_memory found before after result =
@@ -63,22 +64,22 @@ abbrev pub intervals_of : List Fact → (meter : Option (List ℕ)) → Option (
 intervals_of facts meter =
     option_map (rows_of_opening facts) (option_and_then (opening_of facts) meter)
 
--- True if the result of a query for one row is correct. The query needs no memory outside the
--- store.
+-- True if the result of a query for one row is correct, and memory outside the store did not run
+-- out.
 abbrev pub IsRowFound : {T : Type 0} → Option T → (before after : Failures) → Result T Refusal
     → Type 0
 IsRowFound found before after result = IsFound ⊥ found before after result
 
--- The guarantees of a query that passes rows to a sink, a visitor of rows. The sink got the first
--- of the rows, and all of them on `Ok`. The result is `NotFound` if the rows do not exist.
+-- The guarantees of a query that passes rows to a sink, a visitor of rows. On `Ok` the sink got all
+-- rows, and on an error a prefix of the rows. The result is `NotFound` if the rows do not exist.
 pub record HandsRows {S T : Type 0} (takes : S → T → S → Type 0) (rows : Option (List T))
     (before after : Failures) (from to : S) (result : Result (Unit {0}) Refusal) : Type 0 where
   pub answer : IsRowFound (is_there rows) before after result
   pub begun : TakesFirst takes from (rows_in rows) to
   pub whole : OnOk result (TakesAll takes from (rows_in rows) to)
 
--- True if `days` has the energy by civil day, in this time zone, of the accounting register (a
--- named energy counter) with this name. False if the name is invalid (`None`).
+-- True if a list of days has the energy by civil day of the accounting register (a named energy
+-- counter) with this name. False if the name is invalid (`None`).
 abbrev pub AreDaysNamed : Zone → List Fact → (register : Option (List ℕ)) → List DayAccount → Type 0
 AreDaysNamed zone facts None days = ⊥
 AreDaysNamed zone facts (Some register) days = AreDaysOf zone facts register days
@@ -102,33 +103,33 @@ pub record HandsDays {S : Type 0} (takes : S → DayTotal → S → Type 0) (zon
   pub whole : OnOk result (TakesDays takes zone facts register from to)
   pub none : OnErr result (to ≡ from)
 
--- True if the result of a query for one row agrees with the store's records. The premise is that no
--- wrong result of the store went undetected.
+-- States that, if every wrong result of the store was detected, the result of a query for one row
+-- agrees with the store's records.
 abbrev pub FoundIn : {T : Type 0} → (old new : Ledger) → Result T Refusal → (List Fact → Option T)
     → Type 0
 FoundIn old new result row =
     (known : List Fact) → old.holds known → new.is_clean
     → IsRowFound (row known) old.failures new.failures result
 
--- True if the rows of a query agree with the store's records. The premise is that no wrong result
--- of the store went undetected.
+-- States that, if every wrong result of the store was detected, the rows of a query agree with the
+-- store's records.
 abbrev pub RowsIn : {S T : Type 0} → (S → T → S → Type 0) → (old new : Ledger) → (from to : S)
     → Result (Unit {0}) Refusal → (List Fact → Option (List T)) → Type 0
 RowsIn takes old new from to result rows =
     (known : List Fact) → old.holds known → new.is_clean
     → HandsRows takes (rows known) old.failures new.failures from to result
 
--- True if the days of a query agree with the store's records. The premises are that the records
--- follow the rules (`AreLawful`), and that no wrong result of the store went undetected.
+-- States that the days of a query agree with the store's records if two conditions hold. The
+-- records are valid (`AreLawful`), and every wrong result of the store was detected.
 abbrev pub DaysIn : {S : Type 0} → (S → DayTotal → S → Type 0) → (old new : Ledger) → (from to : S)
     → Result (Unit {0}) Refusal → (register : Option (List ℕ)) → Type 0
 DaysIn takes old new from to result register =
     (known : List Fact) → AreLawful known → old.holds known → new.is_clean
     → HandsDays takes old.zone known register old.failures new.failures from to result
 
--- True if the result is the list of an accounting register's days in a time span, or a failure. The
--- premises are that the store's records follow the rules (`AreLawful`), and that no wrong result of
--- the store went undetected.
+-- States that the result is the list of an accounting register's days in a time span, or a failure,
+-- if two conditions hold. The records are valid (`AreLawful`), and every wrong result of the store
+-- was detected.
 abbrev pub ListsDays : (old new : Ledger) → (register : List ℕ) → Span
     → Result (Vec DayTotal Global) Refusal → Type 0
 ListsDays old new register span result =
@@ -161,7 +162,8 @@ ReportsDays takes ledger old new from to result register = After ledger old new 
     HandsDays takes (ledger (books_in old)).zone (facts_of past) register
     (failures_of ledger old) (failures_of ledger new) from to result)
 
--- True if a query passed some list of rows to the sink, whatever the store returned.
+-- True if passing some list of rows in order changes the sink from `from` to `to`. If the store
+-- returned wrong results, the rows may be wrong.
 abbrev pub TakesRows : {S T : Type 0} → (S → T → S → Type 0) → (from to : S) → Type 0
 TakesRows {S} {T} takes from to = (rows : List T) × TakesAll takes from rows to
 
@@ -174,8 +176,8 @@ CountsCause before after why = StoreFailed why before after
 -- The failure counter after a refused query. The reason is `NotFound`, a failure of the store, that
 -- memory ran out, or that the program has stopped.
 --
--- Each failure of the store is counted once, whatever the store returned. If memory ran out outside
--- the store, the failure is not counted.
+-- A failure of the store is counted once, whatever the store returned. Running out of memory is not
+-- counted, but may be recorded as last failure.
 abbrev pub CountsWhy : (before after : Failures) → Refusal → Type 0
 CountsWhy before after refusal.NotFound = after ≡ before
 CountsWhy before after (refusal.Store cause) = CountsCause before after cause
@@ -183,14 +185,14 @@ CountsWhy before after refusal.Memory = MemoryLacked (Unit {0}) before after
 CountsWhy before after refusal.Stopped = after ≡ before
 CountsWhy before after _ = ⊥
 
--- The failure counter after a query. It is unchanged after `Ok`. After a refusal, it counts each
--- failure of the store once.
+-- The failure counter after a query. The counter is unchanged after `Ok`. After a refusal, it
+-- counts each failure of the store once.
 abbrev pub CountsAsked : {T : Type 0} → (before after : Failures) → Result T Refusal → Type 0
 CountsAsked before after (Ok x) = after ≡ before
 CountsAsked before after (Err why) = CountsWhy before after why
 
 -- The effect of a query on the store. The records, the records that may remain after a crash, and
--- the time zone are unchanged. If the store is clean (no wrong result went undetected) after the
+-- the time zone are unchanged. If the store is clean (every wrong result was detected) after the
 -- query, it was clean before.
 pub record Asks {T : Type 0} (old new : Ledger) (result : Result T Refusal) : Type 0 where
   pub keeps : KeepsFacts old new
@@ -200,8 +202,8 @@ pub record Asks {T : Type 0} (old new : Ledger) (result : Result T Refusal) : Ty
   pub zone : new.zone ≡ old.zone
 
 -- The effect of a query on the program's state. The state, the notifications, the bytes to send and
--- the records that may remain after a crash are unchanged. The query is refused as stopped if and
--- only if the program has stopped, and never stops the program.
+-- the records that may remain after a crash are unchanged. The query is refused as `Stopped` if and
+-- only if the program had stopped earlier, and no query stops the program.
 pub record OnlyAsks {B T : Type 0} (ledger : B → Ledger) (old new : Office B)
     (result : Result T Refusal) : Type 0 where
   pub stands : (past : History) → Stands ledger past old → Stands ledger past new

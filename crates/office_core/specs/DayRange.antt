@@ -50,7 +50,8 @@ span_between None till = span.All
 abbrev pub span_of : DayRange → Span
 span_of range = span_between range.from range.till
 
--- True if `days` has the energy of the named accounting register on each civil day in the range.
+-- True if a list of days has the energy of the named accounting register on each civil day in the
+-- range.
 pub record AreDaysWithin (zone : Zone) (facts : List Fact) (register : Option (List ℕ))
     (range : DayRange) (days : List DayAccount) : Type 0 where
   pub all : List DayAccount
@@ -78,9 +79,9 @@ pub record HandsDaysWithin {S : Type 0} (takes : S → DayTotal → S → Type 0
   pub whole : OnOk result (TakesDaysWithin takes zone facts register range before after)
   pub none : OnErr result (after ≡ before)
 
--- True if the days that a query for a range of days returns agree with the store's records. The
--- premises are that the records follow the rules (`AreLawful`), and that no wrong result of the
--- store went undetected.
+-- States that the days that a query for a range of days returns agree with the store's records, if
+-- two conditions hold. The records are valid (`AreLawful`), and every wrong result of the store was
+-- detected.
 abbrev pub DaysWithinIn : {S : Type 0} → (S → DayTotal → S → Type 0) → (old new : Ledger)
     → (before after : S) → Result (Unit {0}) Refusal → (register : Option (List ℕ))
     → DayRange → Type 0
@@ -89,9 +90,9 @@ DaysWithinIn takes old new before after result register range =
     → HandsDaysWithin takes old.zone known register range old.failures new.failures
     before after result
 
--- True if the result is the list of an accounting register's days in the range, or a failure. The
--- premises are that the store's records follow the rules (`AreLawful`), and that no wrong result of
--- the store went undetected.
+-- States that the result is the list of an accounting register's days in the range, or a failure,
+-- if two conditions hold. The records are valid (`AreLawful`), and every wrong result of the store
+-- was detected.
 abbrev pub ListsDaysWithin : (old new : Ledger) → (register : List ℕ) → DayRange
     → Result (Vec DayTotal Global) Refusal → Type 0
 ListsDaysWithin old new register range result =

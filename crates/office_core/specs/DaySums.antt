@@ -16,14 +16,14 @@ use Rattle.office_events.specs.declared.refusals.StoreCause.TheVariants as store
 use Rattle.office_books.specs.Facts.{moment_limit}
 use Rattle.office_core.specs.declared.day_sink.DaySink.{DaySink}
 
--- True if the interval row may be added after the given rows. It starts no earlier than any of the
--- given rows, its start is a valid timestamp, and the total energy in mWh fits in 128 bits.
+-- True if the interval row may be added after the given rows. The row starts no earlier than these
+-- rows, its start is a valid timestamp, and the total energy in mWh fits in 128 bits.
 pub record MayFollow (rows : List Share) (row : Share) : Type 0 where
   pub in_turn : All (λ earlier. earlier.start ≤ row.start) rows
   pub moment : row.start ≤ moment_limit
   pub energy : energy_of rows + row.mwh < 2 ^ 128
 
--- True if the sink, which adds up energy by civil day, has the property `P` or has run out of
+-- True if the sink, which adds up energy by civil day, has the given property or has run out of
 -- memory. False if a quarter hour had no civil day.
 abbrev pub UnlessFailed : Option DayFault → Type 0 → Type 0
 UnlessFailed None P = P

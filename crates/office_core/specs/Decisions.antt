@@ -15,23 +15,23 @@ use Rattle.office_books.specs.Ledgers.{Ledger}
 use Rattle.office_core.specs.Refusing.Asking.{IsOfEvent}
 use Rattle.office_core.specs.Failing.{is_failure}
 
--- The decision on an event after the history `past`. The decision is `None` if the event is
--- accepted, otherwise the answer to the event.
+-- The decision on an event after a history of accepted events. The decision is `None` if the event
+-- is accepted, otherwise the answer to the event.
 abbrev pub Decides : History → (at : ℕ) → Event → Option (Result Answer Refusal) → Type 0
 Decides past at e None = IsAccepted past at e
 Decides past at e (Some given) = given ≡ decision_of past at e
 
--- True if the result is the correct decision on the event, computed from the devices' connections
--- and the store. The premise is that no wrong result of the store went undetected.
+-- States that, if every wrong result of the store was detected, the result is the correct decision
+-- on the event. The program decides from the devices' connections and the store.
 abbrev pub Decided : (old new : Ledger) → List Slot → (latest at : ℕ) → Event
     → Result (Option (Result Answer Refusal)) BooksFault → Type 0
 Decided old new kept latest at e result =
     (past : History) → latest ≡ latest_of past → KeepsSlots kept (slots_of past)
     → old.holds (facts_of past) → new.is_clean → IfOk result (Decides past at e)
 
--- The guarantees for the decision on a device event, which needs no query of the store. The result
--- is `None` if no reason to refuse the event applies. Otherwise it is the answer to the event, and
--- never a failure.
+-- The guarantees for the decision on a device event, which needs no query of the store. If the
+-- result is `None`, no reason to refuse the event applies. Otherwise the result is an answer that
+-- reports no failure.
 pub record DecidesAlone {B : Type 0} (old new : B) (kept : List Slot) (latest at : ℕ) (e : Event)
     (result : Result (Option (Result Answer Refusal)) BooksFault) : Type 0 where
   pub books : new ≡ old

@@ -37,19 +37,18 @@ in_turn (fed ∷ events) (result ∷ results) =
 abbrev pub events_of : {B : Type 0} → List (ℕ × Event) → Run B → List Answered
 events_of events run = in_turn events run.results.items
 
--- The history of accepted events after these answered events. It is the history `past` with the
--- accepted ones of these events.
+-- A history, extended by those of the answered events that were accepted.
 abbrev pub history_after : History → List Answered → History
 history_after past [] = past
 history_after past (fed ∷ later) =
     history_after (with_answer past fed.at fed.event fed.result) later
 
--- The history after a run of events. It has the given history, the opening of the program, and the
--- run's accepted events.
+-- The history after a run of events: the given history, the opening of the store (program start),
+-- and the run's accepted events.
 abbrev pub accepted_by : {B : Type 0} → History → (opened : ℕ) → List (ℕ × Event) → Run B → History
 accepted_by past opened events run = history_after (Opened opened ∷ past) (events_of events run)
 
--- True if the event has the correct answer, or was refused because the store or memory failed. An
+-- True if the answer to the event is correct, or reports that the store or memory failed. A device
 -- event that ends no poll never fails.
 pub record IsAnswered (past : History) (before after : Failures) (fed : Answered) : Type 0 where
   pub answer : IsAnswer past fed.at fed.event before after fed.result
@@ -85,38 +84,38 @@ CountInTurn before after [] = after ≡ before
 CountInTurn before after (fed ∷ later) =
     (between : Failures) × Counts before between fed.result × CountInTurn between after later
 
--- True if the records that may remain after a crash change with each answer to an event as
--- required.
+-- True if, with each answer to an event, the records that may remain after a crash change as
+-- `LeftByEvent` states.
 abbrev pub LeftInTurn : History → List Answered → (before after : List (List Fact)) → Type 0
 LeftInTurn past [] before after = after ≡ before
 LeftInTurn past (fed ∷ later) before after =
     (between : List (List Fact)) × LeftByEvent past fed.at fed.event fed.result before between
     × LeftInTurn (with_answer past fed.at fed.event fed.result) later between after
 
--- True if the records that may remain after a crash change as required: with the opening of the
--- program, and then with each answer to an event.
+-- States how a run of events changes the records that may remain after a crash. The opening of the
+-- store changes these records as `LeftOnceDone` states, and each answer as `LeftByEvent` states.
 abbrev pub LeftByRun : History → (opened : ℕ) → List Answered → (before after : List (List Fact))
     → Type 0
 LeftByRun past opened fed before after =
     (between : List (List Fact)) × LeftOnceDone past (Opened opened) before between
     × LeftInTurn (Opened opened ∷ past) fed between after
 
--- True if the property `says` holds for each successful run of events over a store that has the
--- records of a history. The premise is that no wrong result of the store went undetected.
+-- States that a property holds for a successful run of events and for every history whose records
+-- the store had before the run. It states nothing if a wrong result of the store was not detected.
 abbrev pub Ran : {B : Type 0} → (B → Ledger) → (books : B)
     → Result (Run B) (B × Refusal) → (History → Run B → Type 0) → Type 0
 Ran ledger books result says = (past : History) → BooksStand (ledger books) past
     → IfOk result (λ run. (ledger (books_in run.office)).is_clean → says past run)
 
--- True if after a run of events the program's state is that after all accepted events, and it
--- reports the last event.
+-- True if the program's state after a run of events results from all accepted events. The program
+-- also reports the notifications and bytes to send of the last event.
 pub record StandsAfter {B : Type 0} (ledger : B → Ledger)
     (begun : History) (events : List (ℕ × Event)) (run : Run B) : Type 0 where
   pub office : Stands ledger (history_after begun (events_of events run)) run.office
   pub reported : ReportsOfLast begun (events_of events run) run.office
 
 -- True if a run that could not start returns the store with the reason. Either memory for the
--- answers ran out and the store is unchanged, or the opening of the program was refused or failed.
+-- answers ran out and the store is unchanged, or the opening of the store was refused or failed.
 abbrev pub HandsBack : {B : Type 0} → (B → Ledger) → (books : B) → (opened : ℕ) → History
     → B × Refusal → Type 0
 HandsBack ledger books opened past back =
@@ -155,24 +154,24 @@ abbrev pub RecordsAccepted : {B : Type 0} → (B → Ledger) → (opened : ℕ) 
 RecordsAccepted ledger opened events past run =
     BooksRecord (ledger (books_in run.office)) (accepted_by past opened events run)
 
--- True if the store has the records of all accepted events after a run of events. The premise is
--- that no wrong result of the store went undetected.
+-- States that, if every wrong result of the store was detected, the store has the records of all
+-- accepted events after a run of events.
 abbrev pub RecordsIfClean : {B : Type 0} → (B → Ledger) → (opened : ℕ) → List (ℕ × Event)
     → History → Run B → Type 0
 RecordsIfClean ledger opened events past run =
     (ledger (books_in run.office)).is_clean → RecordsAccepted ledger opened events past run
 
--- True if a store that is clean (no wrong result went undetected) after a run of events was also
+-- True if a store that is clean (every wrong result was detected) after a run of events was also
 -- clean before the run.
 abbrev pub IsCleanOnlyIfWas : {B : Type 0} → (B → Ledger) → (books : B) → Run B → Type 0
 IsCleanOnlyIfWas ledger books run =
     (ledger (books_in run.office)).is_clean → (ledger books).is_clean
 
 -- The guarantees of every run of events, whatever the store returned. Each event has one answer,
--- and no event is refused because a quarter hour has no civil day. The stop and the failure counter
--- follow from the answers.
+-- and no event is refused because a quarter hour has no civil day. The answers determine whether
+-- the program has stopped, and the failure counter.
 --
--- If the store is clean (no wrong result went undetected) after the run, it was clean before the
+-- If the store is clean (every wrong result was detected) after the run, it was clean before the
 -- run. The time zone stays the same.
 pub record EndsInTurn {B : Type 0} (ledger : B → Ledger)
     (books : B) (events : List (ℕ × Event)) (run : Run B) : Type 0 where

@@ -13,15 +13,15 @@ use Rattle.office_books.specs.declared.failures.Failures.{Failures}
 use Rattle.office_books.specs.Faults.{failed_by}
 use Rattle.office_core.specs.Events.{may_settle}
 
--- True if the store failed with this cause and its failure counter was increased by one. `NoDay` is
--- not a failure of the store.
+-- True if the store failed with this cause and its failure counter was increased by one. `NoDay` (a
+-- quarter hour without a civil day) is not a failure of the store.
 abbrev pub StoreFailed : StoreCause → (before after : Failures) → Type 0
 StoreFailed store.Refused before after = after ≡ failed_by (fault.Store kind.Refused) before
 StoreFailed store.Damaged before after = after ≡ failed_by (fault.Store kind.Damaged) before
 StoreFailed store.NoDay before after = ⊥
 
--- True if memory ran out, either in the store, which counted the failure, or outside the store. It
--- may run out outside the store only if `takes_memory` holds.
+-- True if memory ran out, either in the store, which recorded this as its last failure, or outside
+-- the store. Memory may run out outside the store only if `takes_memory` holds.
 abbrev pub MemoryLacked : (takes_memory : Type 0) → (before after : Failures) → Type 0
 MemoryLacked takes_memory before after =
     (after ≡ failed_by fault.Memory before) ⊎ (takes_memory × (after ≡ before))
@@ -34,15 +34,16 @@ IsOutside takes_memory before after refusal.Memory = MemoryLacked takes_memory b
 IsOutside takes_memory before after refusal.Stopped = after ≡ before
 IsOutside takes_memory before after _ = ⊥
 
--- True if the result is a refusal whose cause is not in the request: a failure of the store or of
--- memory, or a stop.
+-- True if the result is a refusal whose cause is not in the request: the store failed, memory ran
+-- out, or the program has stopped.
 abbrev pub FailsOutside : {T : Type 0} → (takes_memory : Type 0) → (before after : Failures)
     → Result T Refusal → Type 0
 FailsOutside takes_memory before after (Ok x) = ⊥
 FailsOutside takes_memory before after (Err why) = IsOutside takes_memory before after why
 
--- The store's failure counter after an opening of the program. Each failure that the opening
--- reports was counted, unless memory ran out outside the store.
+-- The store's failure counter after an opening of the store. A failure of the store that the
+-- opening reports was counted. Running out of memory is not counted, but may be recorded as last
+-- failure.
 abbrev pub CountsFailures : {T : Type 0} → (before after : Failures) → Result T Refusal → Type 0
 CountsFailures before after (Ok x) = after ≡ before
 CountsFailures before after (Err (refusal.Store why)) = StoreFailed why before after
@@ -56,8 +57,9 @@ StoreCounts before after store.Refused =
     StoreFailed store.Refused before after ⊎ (after ≡ before)
 StoreCounts before after why = StoreFailed why before after
 
--- The store's failure counter after an event. Each failure that the answer reports was counted,
--- with two exceptions: memory ran out outside the store, or all poll numbers are used.
+-- The store's failure counter after an event. A failure of the store that the answer reports was
+-- counted, unless all poll numbers are used. Running out of memory is not counted, but may be
+-- recorded as last failure.
 abbrev pub Counts : {T : Type 0} → (before after : Failures) → Result T Refusal → Type 0
 Counts before after (Ok x) = after ≡ before
 Counts before after (Err (refusal.Store why)) = StoreCounts before after why
@@ -86,7 +88,7 @@ is_failure (Err (refusal.Store why)) = true
 is_failure (Err refusal.Memory) = true
 is_failure (Err _) = false
 
--- True if the event stops the program. The event may end polls and failed, so some Modbus sessions
--- may have been updated and others not.
+-- True if the event stops the program: the event may end polls, and its answer reports a failure.
+-- Some Modbus sessions may then be updated and others not.
 abbrev pub stops : Event → Result Answer Refusal → Bool
 stops e result = may_settle e && is_failure result

@@ -30,7 +30,7 @@ energy_booked facts meter = sum_by (λ row. row.mwh) (rows_of_opening facts mete
 abbrev pub first_reading : Opening → Last
 first_reading meter = opened meter
 
--- The meter's "last accepted reading": the count that the counter showed, or was set to, at the
+-- The meter's "last accepted reading": the value that the counter showed, or was set to, at the
 -- latest valid entry.
 abbrev pub last_reading : List Fact → Opening → Last
 last_reading facts meter = last_of (first_reading meter) (entries_of facts meter)
@@ -57,9 +57,8 @@ differences first (entry.Change at before after sf ∷ earlier) =
     pos (before * unit_of (last_of first earlier).sf) -ℤ pos (after * unit_of sf)
     +ℤ differences first earlier
 
--- True if the promise holds for one meter. Its recorded energy equals its last reading minus its
--- first reading, plus the full ranges of rollovers and the differences at resets and changes of
--- scale.
+-- True if the promise holds for one meter. The meter's recorded energy is its last reading minus
+-- its first, plus the full ranges of rollovers and the differences at resets and rescalings.
 abbrev pub AddsUp : List Fact → Opening → Type 0
 AddsUp facts meter =
     pos (energy_booked facts meter)

@@ -11,7 +11,7 @@ use Rattle.office_books.specs.Lawfulness.{IsPast}
 use Rattle.office_books.specs.Ledgers.{Ledger}
 
 -- True if `facts` are the records after the history `past` and one more event or opening of the
--- program. The event may follow another history, `earlier`, with the same records as `past`.
+-- store. The event may follow another history with the same records as `past`.
 pub record IsOneMore (past : History) (facts : List Fact) : Type 0 where
   pub next : Accepted
   pub earlier : History
@@ -19,13 +19,14 @@ pub record IsOneMore (past : History) (facts : List Fact) : Type 0 where
   pub same : facts_of earlier ≡ facts_of past
   pub are : facts ≡ facts_of (next ∷ earlier)
 
--- True if the store may have these records after a crash. They are the records of the accepted
--- events, or the records after one more event or opening of the program.
+-- True if the store may have these records after a crash: the records of the accepted events, or
+-- the records after one more event or opening of the store.
 abbrev pub MayBeLeft : History → List Fact → Type 0
 MayBeLeft past facts = (facts ≡ facts_of past) ⊎ IsOneMore past facts
 
--- True if after a crash the store has the records of the accepted events, with or without one more
--- event. The contract of each call determines which event is possible.
+-- True if after a crash the store has the records of the accepted events, with or without the
+-- records of one more event. The contract of the call that the crash interrupts or follows
+-- determines which event this can be.
 pub record StopLeaves (ledger : Ledger) (past : History) : Type 0 where
   pub left : List (List Fact)
   pub may : ledger.may_leave left
@@ -42,9 +43,9 @@ pub record BooksStand (ledger : Ledger) (past : History) : Type 0 where
 -- `before` has the states that a crash before a call may leave. `after` has those that a crash
 -- after the call may leave.
 
--- The effect of an accepted event or opening on the records that may remain after a crash. A crash
--- leaves exactly the records with this event. If the event added no record, a crash may leave the
--- same records as before.
+-- The effect of an accepted event or opening on the records that may remain after a crash. The
+-- store then has exactly the earlier records and those of this event. If the event added no record,
+-- a crash may leave the same records as before.
 abbrev pub LeftOnceDone : History → Accepted → (before after : List (List Fact)) → Type 0
 LeftOnceDone past next before after =
     (after ≡ facts_of (next ∷ past) ∷ [])
@@ -52,14 +53,14 @@ LeftOnceDone past next before after =
 
 -- The effect of a failed event or opening on the records that may remain after a crash. A crash may
 -- leave the same records as before. If no reason to refuse the event applies, a crash may also
--- leave the complete records of the event.
+-- leave these records together with all records of the event.
 abbrev pub LeftOnceFailed : History → Accepted → (before after : List (List Fact)) → Type 0
 LeftOnceFailed past next before after =
     (after ≡ before) ⊎ (IsPast (next ∷ past) × (after ≡ before ++ facts_of (next ∷ past) ∷ []))
 
 -- The effect of an event with this answer on the records that may remain after a crash. The event
--- was accepted, failed, or changed nothing. A retry or a refusal for another reason changes
--- nothing.
+-- was accepted, failed, or changed nothing. A retry changes nothing, and a refusal for a reason in
+-- the event changes nothing.
 abbrev pub LeftByEvent : History → (at : ℕ) → Event → Result Answer Refusal
     → (before after : List (List Fact)) → Type 0
 LeftByEvent past at e (Ok (answer.Again kind)) before after = after ≡ before
@@ -70,7 +71,7 @@ LeftByEvent past at e (Err refusal.Memory) before after =
     LeftOnceFailed past (Fed at e) before after
 LeftByEvent past at e (Err why) before after = after ≡ before
 
--- The effect of an opening of the program, with this result, on the records that may remain after a
+-- The effect of an opening of the store, with this result, on the records that may remain after a
 -- crash. The opening was accepted, failed, or was refused for another reason.
 abbrev pub LeftByOpening : {T : Type 0} → History → (at : ℕ) → Result T Refusal
     → (before after : List (List Fact)) → Type 0
@@ -81,8 +82,8 @@ LeftByOpening past at (Err refusal.Memory) before after =
     LeftOnceFailed past (Opened at) before after
 LeftByOpening past at (Err why) before after = after ≡ before
 
--- True if `so` describes how a call of the store changes the records that may remain after a crash:
--- `before` the call and `after` it.
+-- States how a call to the store changes the records that a crash may leave. The given relation
+-- holds between the possible records `before` and `after` the call.
 abbrev pub Leaves : (old new : Ledger) → ((before after : List (List Fact)) → Type 0) → Type 0
 Leaves old new so = (before : List (List Fact)) → old.may_leave before
     → (after : List (List Fact)) × so before after × new.may_leave after

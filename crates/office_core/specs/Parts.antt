@@ -49,19 +49,19 @@ entries_within facts meter from most =
     option_map (λ opening. first_from from most (entries_at facts (Some opening)))
     (option_and_then (opening_of facts) meter)
 
--- The meters at the named accounting register, each with its installation, last entry and total
--- energy. `None` if no register has the name.
+-- The past and present meters of the named accounting register (named energy counter), each with
+-- its installation, last entry and total energy. `None` if no register has the name.
 abbrev pub meters_at : List Fact → (register : List ℕ) → Option (List Installation)
 meters_at facts register =
     option_map (λ row. installations_of facts register) (register_of facts register)
 
--- The meters at the named accounting register with their state. `None` if no register has the name
--- or the name is invalid.
+-- The past and present meters of the named accounting register (named energy counter), with their
+-- state. `None` if no register has the name or the name is invalid.
 abbrev pub meters_named : List Fact → (register : Option (List ℕ)) → Option (List Installation)
 meters_named facts register = option_and_then (meters_at facts) register
 
 -- True if the result of a query for a list is correct. The result is the list, `NotFound` if the
--- list does not exist, or a failure of the store or of memory.
+-- list does not exist, or the refusal that reports a failure or a stopped program.
 abbrev pub IsListed : {T : Type 0} → Option (List T) → (before after : Failures)
     → Result (Vec T Global) Refusal → Type 0
 IsListed rows before after (Ok listed) = (rows ≡ Some listed.items) × (after ≡ before)
@@ -69,8 +69,8 @@ IsListed None before after (Err why) =
     ((why ≡ refusal.NotFound) × (after ≡ before)) ⊎ IsOutside ⊥ before after why
 IsListed (Some rows) before after (Err why) = IsOutside ⊥ before after why
 
--- True if the list that a query returns agrees with the store's records. The premise is that no
--- wrong result of the store went undetected.
+-- States that, if every wrong result of the store was detected, the list that a query returns
+-- agrees with the store's records.
 abbrev pub ListsIn : {T : Type 0} → (old new : Ledger) → Result (Vec T Global) Refusal
     → (List Fact → Option (List T)) → Type 0
 ListsIn old new result rows = (known : List Fact) → old.holds known → new.is_clean

@@ -14,7 +14,7 @@ use Rattle.office_core.specs.declared.office.Office.{Office}
 use Rattle.office_core.specs.Leaving.{BooksStand, Leaves, LeftByOpening}
 use Rattle.office_core.specs.Standing.{books_in}
 
--- The effect of an opening of the program that was refused for its timestamp or that failed. The
+-- The effect of an opening of the store that was refused for its timestamp or that failed. The
 -- store's records are unchanged. Memory outside the store is needed only if no reason to refuse the
 -- opening applies.
 --
@@ -27,27 +27,27 @@ pub record IsNotOpened (past : History) (at : ℕ) (old new : Ledger) (why : Ref
       ((opening_refusal_of (facts_of past) at ≡ Some why) × (new.failures ≡ old.failures))
       ⊎ IsOutside (opening_refusal_of (facts_of past) at ≡ None) old.failures new.failures why
 
--- True if a refused opening of the program returns the store with unchanged records. The premise is
--- that no wrong result of the store went undetected.
+-- States that, if every wrong result of the store was detected, a refused opening of the store
+-- returns the store with unchanged records.
 abbrev pub HandsBackUnopened : {B : Type 0} → (B → Ledger) → (books : B) → (at : ℕ) → History
     → B × Refusal → Type 0
 HandsBackUnopened ledger books at past back =
     (ledger back.0).is_clean → IsNotOpened past at (ledger books) (ledger back.0) back.1
 
--- The records that may remain after a crash that follows an opening of the program. They are the
--- records with those of the opening. If the opening added no record, a crash may leave the same
--- records as before.
+-- The records that may remain after a crash that follows an opening of the store. The crash leaves
+-- the records including those of the opening. If the opening added no record, a crash may leave the
+-- same records as before.
 abbrev pub LeavesOpening : {B : Type 0} → (B → Ledger) → (books : B) → (at : ℕ) → History
     → Office B → Type 0
 LeavesOpening ledger books at past office = (ledger (books_in office)).is_clean
     → Leaves (ledger books) (ledger (books_in office)) (LeftByOpening past at (Ok office))
 
--- The timestamp of an opening of the program for queries only. It is the given timestamp, or the
--- latest recorded timestamp if that timestamp is later.
+-- The timestamp of an opening of the store for queries only: the later of the given timestamp and
+-- the latest recorded timestamp.
 abbrev pub asking_moment : History → (given : ℕ) → ℕ
 asking_moment past given = max given (latest_in (facts_of past))
 
--- The effect of a successful opening of the program at timestamp `at`. The store has the opening's
+-- The effect of a successful opening of the store at timestamp `at`. The store has the opening's
 -- records, and each device has a slot for its connection.
 pub record IsReopened (past : History) (at : ℕ) (old new : Ledger) (slots : List Slot) :
     Type 0 where
@@ -55,18 +55,18 @@ pub record IsReopened (past : History) (at : ℕ) (old new : Ledger) (slots : Li
   pub leaves : Leaves old new (LeftByOpening past at (Ok slots))
   pub keeps : KeepsSlots slots (slots_of (Opened at ∷ past))
 
--- The effect of an opening of the program. On `Ok` the store has the opening's records. On an error
+-- The effect of an opening of the store. On `Ok` the store has the opening's records. On an error
 -- its records are unchanged.
 abbrev pub Reopens : History → (at : ℕ) → (old new : Ledger) → Result (Vec Slot Global) Refusal
     → Type 0
 Reopens past at old new (Ok slots) = IsReopened past at old new slots.items
 Reopens past at old new (Err why) = IsNotOpened past at old new why
 
--- The guarantees of an opening of the program, whatever the store returned. The opening reports
--- exactly the store's failures. If the store is clean (no wrong result went undetected) after the
+-- The guarantees of an opening of the store, whatever the store returned. The opening reports
+-- exactly the store's failures. If the store is clean (every wrong result was detected) after the
 -- opening, it was clean before. The time zone stays the same.
 --
--- No opening is refused as stopped, or because a quarter hour has no civil day.
+-- No opening is refused as `Stopped`, or because a quarter hour has no civil day.
 pub record Passed {T : Type 0} (old new : Ledger) (result : Result T Refusal) : Type 0 where
   pub counts : CountsFailures old.failures new.failures result
   pub clean : new.is_clean → old.is_clean

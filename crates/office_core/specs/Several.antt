@@ -1,4 +1,4 @@
--- The effect of several queries in a row on the program's state.
+-- The effect of several queries in sequence on the program's state.
 use Rattle.std.specs.Prelude.{◌≡◌, Result, Ok, Err}
 use Rattle.office_events.specs.declared.refusals.Refusal.{Refusal}
 use Rattle.office_books.specs.History.{History}

@@ -51,8 +51,8 @@ IsSite facts before after result = MatchResult result
     (λ rows. (rows.items ≡ site_of facts) × (after ≡ before))
     (IsOutside (Unit {0}) before after)
 
--- True if the listed accounting registers (named energy counters) and meters agree with the store's
--- records. The premise is that no wrong result of the store went undetected.
+-- States that, if every wrong result of the store was detected, the listed accounting registers
+-- (named energy counters) and meters agree with the store's records.
 abbrev pub SiteIn : (old new : Ledger) → Result (Vec SiteRow Global) Refusal → Type 0
 SiteIn old new result = (known : List Fact) → old.holds known → new.is_clean
     → IsSite known old.failures new.failures result
@@ -64,8 +64,8 @@ abbrev pub ReportsSite : {B : Type 0} → (B → Ledger) → (old new : Office B
 ReportsSite ledger old new result = After ledger old new (λ past.
     IsSite (facts_of past) (failures_of ledger old) (failures_of ledger new) result)
 
--- True if exactly the expected rows are appended to a list on `Ok`. The premise is that no wrong
--- result of the store went undetected.
+-- States that, if every wrong result of the store was detected, a call that returns `Ok` appends
+-- exactly the expected rows to the list.
 abbrev pub AddsRows : {T E : Type 0} → (old new : Ledger) → (List Fact → List SiteRow)
     → (before after : List SiteRow) → Result T E → Type 0
 AddsRows old new says before after result = (known : List Fact) → old.holds known → new.is_clean

@@ -23,13 +23,13 @@ notes_in office = office.notes.items
 abbrev pub outgoing_in : {B : Type 0} → Office B → List ℕ
 outgoing_in office = office.outgoing
 
--- The state of the running program after a history of events. It has the latest accepted timestamp,
--- and for each device a slot with the state of its connection.
+-- The state of the running program after a history of events: the latest accepted timestamp, and
+-- for each device a slot with the state of its connection.
 pub record Goes {B : Type 0} (past : History) (office : Office B) : Type 0 where
   pub latest : office.latest ≡ latest_of past
   pub slots : KeepsSlots office.slots.items (slots_of past)
 
--- True if the program's state agrees with the history `past`. Its store has the records of the
+-- True if the program's state agrees with the history `past`. The store has the records of the
 -- accepted events. Unless the program has stopped, its slots have the state of each device's
 -- connection.
 pub record Stands {B : Type 0} (ledger : B → Ledger) (past : History)
@@ -37,8 +37,8 @@ pub record Stands {B : Type 0} (ledger : B → Ledger) (past : History)
   pub books : BooksStand (ledger office.books) past
   pub goes : office.stopped ≡ false → Goes past office
 
--- True if the program's state agrees with the history of accepted events. The premise is that no
--- wrong result of the store went undetected.
+-- States that, if every wrong result of the store was detected, the program's state agrees with the
+-- history of accepted events.
 abbrev pub StandsIfClean : {B : Type 0} → (B → Ledger) → History → Office B → Type 0
 StandsIfClean ledger past office = (ledger (books_in office)).is_clean → Stands ledger past office
 
@@ -48,8 +48,8 @@ pub record IsFresh {B : Type 0} (office : Office B) : Type 0 where
   pub notes : notes_in office ≡ []
   pub outgoing : outgoing_in office ≡ []
 
--- True if the property `so` holds for every history with which the program's state agreed before
--- the call. The premise is that no wrong result of the store went undetected.
+-- States that, if every wrong result of the store was detected, a property holds for every history
+-- that agreed with the program before the call.
 abbrev pub After : {B : Type 0} → (B → Ledger) → (old new : Office B) → (History → Type 0) → Type 0
 After ledger old new so =
     (past : History) → Stands ledger past old → (ledger (books_in new)).is_clean → so past

@@ -1,4 +1,4 @@
--- The records that the store has after a list of events and a crash. They are the records of all
+-- The records that the store has after a list of events and a crash: the records of all
 -- acknowledged events, and possibly the complete records of one failed event.
 use Rattle.std.specs.Prelude.{◌≡◌, ◌⊎◌, ℕ, true, List, [], ◌∷◌, All, Contains}
 use Rattle.office_events.specs.declared.facts.Fact.{Fact}
@@ -8,8 +8,9 @@ use Rattle.office_books.specs.Lawfulness.{IsPast}
 use Rattle.office_core.specs.Failing.{is_failure}
 use Rattle.office_core.specs.EventRun.{Answered, LeftByRun, LeftInTurn, history_after}
 
--- True if the event failed (refusal 13, store failed, or 14, out of memory) without a reason to
--- refuse it, and no later event added a record. `facts` are the records including this event.
+-- True if the event failed (refusal 13, store failed, or 14, out of memory), and no later event
+-- added a record. No reason to refuse the event applies. The given records include the records of
+-- this event.
 pub record IsWithFailed (past : History) (fed : Answered) (later : List Answered)
     (facts : List Fact) : Type 0 where
   pub failed : is_failure fed.result ≡ true
@@ -17,22 +18,21 @@ pub record IsWithFailed (past : History) (fed : Answered) (later : List Answered
   pub none_later : facts_of (history_after past (fed ∷ later)) ≡ facts_of past
   pub are : facts ≡ facts_of (Fed fed.at fed.event ∷ past)
 
--- True if `facts` are the records including those of one failed event, after which no event added a
--- record.
+-- True if the records include those of one failed event, after which no event added a record.
 abbrev pub AreWithFailed : History → List Answered → List Fact → Type 0
 AreWithFailed past [] facts = ⊥
 AreWithFailed past (fed ∷ later) facts =
     IsWithFailed past fed later facts
     ⊎ AreWithFailed (with_answer past fed.at fed.event fed.result) later facts
 
--- True if `facts` are the records of all acknowledged events, possibly with those of one failed
+-- True if the records are those of all acknowledged events, possibly with those of one failed
 -- event.
 abbrev pub AreOfEvents : History → List Answered → List Fact → Type 0
 AreOfEvents past fed facts =
     (facts ≡ facts_of (history_after past fed)) ⊎ AreWithFailed past fed facts
 
--- True if the later events added no record, and the store could have the records `facts` after a
--- crash before these events.
+-- True if the later events added no record, and the store could have these records after a crash
+-- before these events.
 abbrev pub AreOfBefore : (past later : History) → (before : List (List Fact)) → List Fact → Type 0
 AreOfBefore past later before facts = (facts_of later ≡ facts_of past) × Contains before facts
 
@@ -46,8 +46,8 @@ EventsAreLeftWhole =
     → All (λ facts. AreOfEvents past fed facts
     ⊎ AreOfBefore past (history_after past fed) before facts) after
 
--- Theorem: after a run of events, which begins with the opening of the program, a crash leaves the
--- records of all acknowledged events, possibly with one failed event.
+-- Theorem: after a run of events, a crash leaves the records of all acknowledged events, possibly
+-- with those of one failed event. The run begins with the opening of the store.
 abbrev pub RunsAreLeftWhole : Type 0
 RunsAreLeftWhole =
     (past : History) (opened : ℕ) (fed : List Answered) (before after : List (List Fact))

@@ -22,8 +22,8 @@ use Rattle.office_core.specs.Standing.{Goes, books_in, is_stopped, notes_in, out
 abbrev pub failures_of : {B : Type 0} → (B → Ledger) → Office B → Failures
 failures_of ledger office = (ledger office.books).failures
 
--- True if the answer to an event is correct. It is the defined answer, or a failure. Memory outside
--- the store is needed only if the event is accepted.
+-- True if the answer to an event is the defined one (`decision_of`), or correctly reports a failure
+-- or a stopped program. Memory outside the store is needed only if the event is accepted.
 abbrev pub IsAnswer : History → (at : ℕ) → Event → (before after : Failures)
     → Result Answer Refusal → Type 0
 IsAnswer past at e before after result =
@@ -51,11 +51,12 @@ pub record IsReported {B : Type 0} (past : History) (at : ℕ) (e : Event)
   pub outgoing : outgoing_in office ≡ outgoing_after past at e result
 
 -- The guarantees of processing an event, whatever the store returned. The program refuses the event
--- as stopped if and only if it has stopped, and never because a quarter hour has no civil day.
+-- as `Stopped` if and only if the program has stopped. No event is refused because a quarter hour
+-- has no civil day.
 --
--- If an event that may end polls fails, the program stops. It reports exactly the store's failures.
--- If the store is clean (no wrong result went undetected) after the event, it was clean before. The
--- time zone stays the same.
+-- If an event that may end polls fails, the program stops. The program reports exactly the store's
+-- failures. If the store is clean (every wrong result was detected) after the event, it was clean
+-- before. The time zone stays the same.
 pub record Ends {B : Type 0} (ledger : B → Ledger) (old new : Office B) (e : Event)
     (result : Result Answer Refusal) : Type 0 where
   pub stopped : (result ≡ Err refusal.Stopped) ↔ (is_stopped old ≡ true)
@@ -99,16 +100,16 @@ pub record Takes {B : Type 0} (ledger : B → Ledger) (past : History) (at : ℕ
   pub goes : stops e result ≡ false → Goes (with_answer past at e result) new
   pub reported : IsReported past at e result new
 
--- True if the program processed the event correctly for every history before the event. The premise
--- is that no wrong result of the store went undetected.
+-- States that, if every wrong result of the store was detected, the program processed the event
+-- correctly for every history before the event.
 abbrev pub TakesAny : {B : Type 0} → (B → Ledger) → (at : ℕ) → Event → (old new : Office B)
     → Result Answer Refusal → Type 0
 TakesAny ledger at e old new result =
     (past : History) → MayTake ledger past e old → (ledger (books_in new)).is_clean
     → Takes ledger past at e old new result
 
--- True if the program processed the event correctly for every history that accepts the event. The
--- premise is that no wrong result of the store went undetected.
+-- States that, if every wrong result of the store was detected, the program processed the event
+-- correctly for every history that accepts the event.
 abbrev pub TakesAccepted : {B : Type 0} → (B → Ledger) → (at : ℕ) → Event → (old new : Office B)
     → Result Answer Refusal → Type 0
 TakesAccepted ledger at e old new result =
@@ -117,10 +118,10 @@ TakesAccepted ledger at e old new result =
     → Takes ledger past at e old new result
 
 -- The guarantees of processing an event, whatever the store returned. The program reports exactly
--- the store's failures. If the store is clean (no wrong result went undetected) after the event, it
+-- the store's failures. If the store is clean (every wrong result was detected) after the event, it
 -- was clean before. The time zone and the stopped flag stay the same.
 --
--- The event is not refused as stopped, or because a quarter hour has no civil day.
+-- The event is not refused as `Stopped`, or because a quarter hour has no civil day.
 pub record Passes {B : Type 0} (ledger : B → Ledger) (old new : Office B)
     (result : Result Answer Refusal) : Type 0 where
   pub counts : Counts (ledger (books_in old)).failures (ledger (books_in new)).failures result

@@ -14,9 +14,9 @@ use std::alloc::Global;
 
 /// Opens the program over a store and processes these events, each at its timestamp.
 ///
-/// Timestamps are in seconds since 1970-01-01 UTC. Each event has one answer. At the end the store
-/// has the records of the accepted events, and their energy agrees with the meters' readings. The
-/// premise is that no wrong result of the store went undetected.
+/// Timestamps are in seconds since 1970-01-01 UTC. Each event has one answer. If every wrong result
+/// of the store was detected, the store has the records of the accepted events afterwards. The
+/// recorded energy then agrees with the meters' readings.
 ///
 /// The run allocates memory for all answers before it opens the store. If the allocation or the
 /// opening fails, the caller gets the store back.

@@ -10,8 +10,8 @@ pub fn events_are_left_whole()
     ensures { EventsAreLeftWhole }
 {}
 
-/// Proves the theorem of `events_are_left_whole` (after a crash the store has all acknowledged
-/// events) for a run that begins with an opening.
+/// Proves that after a run of events and a crash the store has the records of all acknowledged
+/// events. The run begins with the opening of the store (program start).
 pub fn runs_are_left_whole()
     ensures { RunsAreLeftWhole }
 {}

@@ -345,9 +345,9 @@ impl<B: Books> Office<B> {
         questions::holds(&mut self.books, meter, span, sink)
     }
 
-    /// Returns the meters at an accounting register with their last entries and total energy, in
-    /// order of installation, closed meters included. The name `None` is invalid, and no register
-    /// has it.
+    /// Returns all meters that were installed at an accounting register (a named energy counter),
+    /// in order of installation, closed meters included. Each has its last entry and total energy.
+    /// The name `None` is invalid, and no register has it.
     pub fn meters(&mut self, register: &Option<Name>) -> Result<Vec<Installation>, Refusal>
         ensures listed { ListsAccepted B.ledger self.old self.new result
             (λ facts. meters_named facts register.now) }

@@ -1,4 +1,4 @@
-//! Opens the program over an existing store, and records the store's pending polls as lost.
+//! Opens an existing store for the program, and records the store's pending polls as lost.
 
 mod opened_office;
 

@@ -205,8 +205,8 @@ pub fn holds<B: Books, K: RowSink<HeldReading>>(
     Ok(())
 }
 
-/// Returns the meters at an accounting register with their last entries and total energy, in order
-/// of installation, closed meters included.
+/// Returns all meters that were installed at an accounting register, in order of installation,
+/// closed meters included. Each has its last entry and total energy.
 pub fn meters<B: Books>(
     books: &mut B,
     register: &Option<Name>,
@@ -253,7 +253,7 @@ fn hand_on<K: RowSink<DayTotal>>(days: &[DayTotal], sink: &mut K)
     }
 }
 
-/// Returns the energy of a recorded register in a time span by civil day, in order.
+/// Returns the energy of a recorded accounting register in a time span by civil day, in order.
 fn days_of<B: Books>(
     alloc: Global,
     books: &mut B,
@@ -291,7 +291,7 @@ pub fn days<B: Books, K: RowSink<DayTotal>>(
     Ok(())
 }
 
-/// Returns the energy of a recorded register on each civil day in the range, in order.
+/// Returns the energy of a recorded accounting register on each civil day in the range, in order.
 fn days_in<B: Books>(
     alloc: Global,
     books: &mut B,

@@ -1,4 +1,4 @@
-//! Opens the program over a store that may already have records.
+//! Opens a store that may already have records, for the program.
 ghost use Rattle.office_books.specs.History.{History};
 ghost use Rattle.office_core.specs.Leaving.{BooksStand};
 ghost use Rattle.office_core.specs.Reopening.{Passed, Reopens};
@@ -8,7 +8,7 @@ use office_books::Books;
 use office_events::Refusal;
 use std::alloc::Global;
 
-/// Records the opening of the program and returns one slot (the state of a connection) for each
+/// Records the opening of the store and returns one slot (the state of a connection) for each
 /// device, or refuses the opening.
 pub fn reopen<B: Books>(alloc: Global, books: &mut B, moment: u64) -> Result<Vec<Slot>, Refusal>
     ensures reopens { (past : History) → BooksStand (B.ledger books.old) past

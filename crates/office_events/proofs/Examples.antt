@@ -2,7 +2,7 @@
 use Rattle.std.proofs.Common.{◌≡◌, ℕ, true, false, List, [], ◌∷◌, Some, None, replicate, refl}
 use Rattle.office_events.specs.Names.{is_name, named}
 
--- A name of the letter `m` followed by `n` letters `a`.
+-- A name of the letter `m` followed by the given number of letters `a`.
 abbrev letters : ℕ → List ℕ
 letters more = 109 ∷ replicate more 97
 
@@ -18,8 +18,8 @@ sixteen_bytes = refl
 seventeen_bytes : is_name (letters 16) ≡ false
 seventeen_bytes = refl
 
--- A name may consist of one letter: `A`, `Z`, `a` and `z` are valid, and their ASCII neighbours
--- `@`, `[`, a backquote and `{` are not.
+-- A name may consist of one letter: `A`, `Z`, `a` and `z` are valid, and their ASCII neighbors `@`,
+-- `[`, a backquote and `{` are not.
 first_letters : (is_name (65 ∷ []) ≡ true) × (is_name (90 ∷ []) ≡ true) × (is_name (97 ∷ []) ≡ true)
     × (is_name (122 ∷ []) ≡ true)
 first_letters = (refl, refl, refl, refl)

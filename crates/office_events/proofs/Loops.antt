@@ -3,8 +3,8 @@ use Rattle.std.proofs.Common.{◌≡◌, ℕ, ◌+◌, ◌<◌, ◌≤◌, suc, 
 use Rattle.std.proofs.lemmas.List.{drop_all}
 use Rattle.std.proofs.Math.Seq.{drop-cons}
 
--- One iteration of the loop does not change its final result `z`. The rest of the list, run on the
--- changed accumulator, yields the same result as the list from the current element on.
+-- One iteration of a loop over a list keeps the loop's final result. The rest of the list, run on
+-- the changed accumulator, yields the same result as the list from the current element on.
 pub one_on : {X T : Type 0} (run : List X → T → T) (step : X → T → T) → ((x : X) (xs : List X) (t : T) → run (x ∷ xs) t ≡ run xs (step x t))
     → (xs : List X) (i : ℕ) (x : X) (t u z : T) → i < length xs → x ≡ get_or xs i x → run (drop i xs) t ≡ z → u ≡ step x t
     → run (drop (i + 1) xs) u ≡ z

@@ -1,6 +1,6 @@
-//! Commands that change what the program's store has: devices, registers, meters and entries. The
-//! program checks the ranges of all numbers in a command. A name is `None` if the caller's text is
-//! not a valid name.
+//! Commands that change the records in the program's store: devices, accounting registers, meters
+//! and entries. The program checks the ranges of all numbers in a command. A name is `None` if the
+//! caller's text is not a valid name.
 use crate::names::Name;
 use mb_wire::ReadSpan;
 use read_plan::PlannedList;
@@ -24,12 +24,13 @@ pub struct PutList {
     pub list: PlannedList,
 }
 
-/// The source of an accounting register's scale, before the program checks its range.
+/// The source of an accounting register's scale factor, with a number that the program has not yet
+/// checked.
 #[derive(Clone, Copy, PartialEq, Eq)]
 pub enum GivenScale {
-    /// A fixed scale: a power of ten, -3 to 3.
+    /// A fixed scale factor: an exponent of ten, -3 to 3.
     Fixed(i64),
-    /// The device's scale factor at this address, 0 to 65535.
+    /// The address (0 to 65535) of the Modbus register in which the device has the scale factor.
     Register(u64),
 }
 
@@ -46,14 +47,14 @@ pub struct AddRegister {
     pub scale: GivenScale,
 }
 
-/// The command to install a meter at an accounting register.
+/// The command to install a meter at an accounting register (a named energy counter of a device).
 #[derive(Clone, Copy, PartialEq, Eq)]
 pub struct Install {
     pub register: Option<Name>,
     pub meter: Option<Name>,
-    /// The meter's count at its installation, at least 0 and below `range`.
+    /// The meter's counter value at its installation, at least 0 and below `range`.
     pub raw: u64,
-    /// The power of ten of the meter's counts, -3 to 3.
+    /// The scale factor of the meter's counts: an exponent of ten, -3 to 3.
     pub sf: i64,
     /// The greatest power that can flow through the meter, 1 to 1,000,000,000 W.
     pub ceiling: u64,
@@ -61,12 +62,12 @@ pub struct Install {
     pub range: u64,
 }
 
-/// The command to close the meter at an accounting register and to install another meter at this
-/// register.
+/// The command to close the meter that is installed at an accounting register, and to install
+/// another meter at this register.
 #[derive(Clone, Copy, PartialEq, Eq)]
 pub struct Exchange {
     pub register: Option<Name>,
-    /// The last count of the meter that is closed.
+    /// The last counter value of the meter that is closed.
     pub last: u64,
     /// The number of rollovers since the old meter's last entry, 0 to 255.
     pub rolls: u64,
@@ -108,7 +109,8 @@ pub struct Manual {
     pub at: Option<u64>,
 }
 
-/// The command to close the meter at an accounting register, with the meter's last count.
+/// The command to close the meter that is installed at an accounting register, with the meter's
+/// last counter value.
 #[derive(Clone, Copy, PartialEq, Eq)]
 pub struct Close {
     pub register: Option<Name>,

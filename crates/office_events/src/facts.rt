@@ -27,12 +27,12 @@ pub struct DeviceList {
     pub list: PlannedList,
 }
 
-/// The source of an accounting register's scale.
+/// The source of an accounting register's scale factor (an exponent of ten).
 #[derive(Clone, Copy, PartialEq, Eq)]
 pub enum ScaleSource {
-    /// A fixed scale: a power of ten, -3 to 3.
+    /// A fixed scale factor: an exponent of ten, -3 to 3.
     Fixed(i16),
-    /// The scale factor that the device has in the Modbus register at this address.
+    /// The address of the Modbus register in which the device has the scale factor.
     Register(u16),
 }
 
@@ -48,7 +48,7 @@ pub struct Register {
 }
 
 /// The opening of a meter (its first entry): its installation at an accounting register, with the
-/// meter's count at the installation.
+/// counter value at the installation.
 #[derive(Clone, Copy, PartialEq, Eq)]
 pub struct Opening {
     pub meter: Name,
@@ -94,8 +94,8 @@ pub struct BookedEntry {
     pub entry: Entry,
 }
 
-/// A rejected reading with the cause of its rejection. A rejected reading changes no state or
-/// energy of its meter.
+/// A rejected reading with the cause of its rejection. A rejected reading does not change the state
+/// or the energy of its meter.
 #[derive(Clone, Copy, PartialEq, Eq)]
 pub struct HeldReading {
     pub meter: Name,
@@ -116,7 +116,7 @@ pub struct VoidedEntry {
     pub at: u64,
 }
 
-/// The stored answer to a command with an idempotency key. The store never deletes it.
+/// The stored answer to a command with an idempotency key. The store never deletes this answer.
 #[derive(Clone, Drop)]
 pub struct Reply {
     pub caller: Name,

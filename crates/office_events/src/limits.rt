@@ -1,4 +1,5 @@
-//! Limits of the program: maximum counts, and maximum values of numbers in commands.
+//! Limits of the program: how many devices, meters and polls it allows, and the maximum values of
+//! numbers in commands.
 
 /// The maximum length of a name, in bytes.
 pub const MAX_NAME: usize = 16;

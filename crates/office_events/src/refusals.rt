@@ -44,8 +44,8 @@ impl Display for StoreCause {
 impl Error for StoreCause {}
 
 /// The reason why the program refuses an event or a query. If several reasons apply, the program
-/// reports `Stopped` first, then `Reused`, then the reason with the smallest number. `Store` comes
-/// after `NotPlausible`.
+/// reports `Stopped` first, then `Reused`, then the reason with the smallest number. As an
+/// exception, `Store` comes after `NotPlausible`.
 #[derive(Clone, Copy, Debug, PartialEq, Eq)]
 pub enum Refusal {
     /// The store has no device, accounting register, meter, point list, entry or poll with this
@@ -56,9 +56,9 @@ pub enum Refusal {
     Exists,
     /// The event's timestamp is before the timestamp of the latest accepted event.
     ClockBack,
-    /// A scale factor (a power of ten) is not from -3 to 3.
+    /// A scale factor (an exponent of ten) is not from -3 to 3.
     BadScale,
-    /// The count, with its rollovers added, is lower than the meter's last count.
+    /// The counter value, with its rollovers added, is less than the meter's last counter value.
     NegativeStep,
     /// The meter's last entry has the same or a later timestamp.
     NotLater,
@@ -66,7 +66,7 @@ pub enum Refusal {
     SpanTooLong,
     /// With this entry the total energy of the meter would exceed its limit of 4 * 10^18 mWh.
     TotalFull,
-    /// The meter at the accounting register is closed.
+    /// The meter that was installed at the accounting register is closed.
     Ended,
     /// The device is not connected or is already connected. Or it can start no further poll, for
     /// example because too many of its polls wait for responses.
@@ -80,8 +80,8 @@ pub enum Refusal {
     Store(StoreCause),
     /// Memory ran out.
     Memory,
-    /// The program stopped earlier, because the store failed or memory ran out while it processed
-    /// the outcomes of polls.
+    /// The program stopped earlier, because the store failed, or memory ran out while the program
+    /// processed the outcomes of polls.
     Stopped,
     /// The entry is already voided (cancelled), or the entry or the next valid entry is not a
     /// reading from the device.

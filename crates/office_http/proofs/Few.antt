@@ -1,4 +1,5 @@
--- Lemmas: a meter has fewer rows of energy by quarter hours than there are timestamps.
+-- Lemmas: the number of a meter's rows (one for each quarter hour with energy) is at most the
+-- largest supported timestamp, and therefore below 2^64.
 use Rattle.std.proofs.Common.{◌≡◌, ℕ, ◌+◌, ◌-◌, ◌<◌, ◌≤◌, List, [], ◌∷◌, length, Option, Some, None, refl, sym, subst, arith}
 use Rattle.std.specs.Prelude.{All}
 use Rattle.std.specs.Option.{option_map}
@@ -18,8 +19,8 @@ use Rattle.office_books.proofs.Journals.{IsInstalled, installed_fits, well}
 use Rattle.office_books.proofs.Lookups.{find_passes, same_text}
 use Rattle.office_core.specs.Asking.{intervals_of, rows_in}
 
--- Theorems on the history of a meter's entries. They bound the number of the meter's rows of energy
--- by quarter hours.
+-- Theorems on the history of a meter's entries. They bound the number of the meter's rows (one for
+-- each quarter hour with energy).
 pub record FromJournals : Type 0 where
   pub accounts : IntervalRowsAreAccounts
   pub within : RowsLieWithin

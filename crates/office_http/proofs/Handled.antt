@@ -1,4 +1,5 @@
--- Lemmas on the bytes that one call reads from a client's connection and writes to the connection.
+-- Lemmas on the bytes that one call of `handle` (which serves one request) reads from a client's
+-- connection and writes to the connection.
 use Rattle.std.proofs.Common.{◌≡◌, ◌∙◌, ◌≤◌, ◌+◌, ◌-◌, ◌^◌, min, arith, ℕ, Bool, true, false, not, ◌&&◌, List, [], ◌++◌, Option, Some, None, Result, Ok, Err, inl, inr, refl, sym, ap, subst}
 use Rattle.std.specs.Io.KnownBytes.{Appends, Keeps}
 use Rattle.std.specs.Prelude.{is_err}
@@ -37,13 +38,13 @@ keeps_append (Some x) None h = absurd h
 keeps_append (Some x) (Some y) h = h ∙ sym (append-nil x)
 
 -- If nothing was written to the client's connection between two times, then the bytes written since
--- the earlier time equal the bytes written since the later time.
+-- either of the two times are the same.
 pub gives_since : (sent : Result (Unit {0}) LinkFailed) (a b c : Option (List ℕ)) (bytes : List ℕ) → Keeps a b → Gives sent b c bytes → Gives sent a c bytes
 gives_since (Ok x) a b c bytes h gives = Appends-trans a b c [] bytes (keeps_append a b h) gives
 gives_since (Err e) a b c bytes h gives = (gives.0, gives.1, gives.2, Appends-trans a b c [] gives.0 (keeps_append a b h) gives.3)
 
--- If the input buffer was empty before the call, then its bytes after the call are all bytes that
--- the client's connection delivered.
+-- If the input buffer was empty before a read, then the buffer's bytes after the read are exactly
+-- the bytes that the client's connection delivered.
 pub came_is : (old new : List ℕ) (r s : Option (List ℕ)) → old ≡ [] → (came : Came old new r s) → new ≡ came.chunk
 came_is old new r s empty came = came.bytes ∙ ap (λ o. o ++ came.chunk) empty
 
@@ -58,14 +59,16 @@ stopped P goes old new was now read empty is (inr some) = inr record {
   size = some.size;
 }
 
--- The bytes of a complete request contain a complete request head.
+-- If bytes contain a complete request or begin with an invalid head, then their request head is
+-- complete or invalid.
 pub head_of : (table : Table) (head_state : HeadState) (bytes : List ℕ) → Holds table bytes head_state → HasHead bytes
 head_of table Open bytes h = absurd h
 head_of table TooLarge bytes h = record { head_state = TooLarge; finds = h; come = refl }
 head_of table NoHead bytes h = record { head_state = NoHead; finds = h; come = refl }
 head_of table (Whole at) bytes h = record { head_state = Whole at; finds = h.head; come = refl }
 
--- Lemmas on calls that fail to read their request.
+-- Lemmas: if a call of `handle` fails to read its request, the call writes nothing and leaves the
+-- program's state unchanged.
 
 pub read_failed : {B : Type 0} (ledger : B → Ledger) (at : ℕ) (office : Office B) (fault : TakeFault) (old new : List ℕ) (remaining later given later_given : Option (List ℕ))
     (last : Option LastTake) → old ≡ [] → ReadsRequest routes (Err fault) old new remaining later → Keeps given later_given
@@ -105,7 +108,8 @@ head_failed take.TurnsUsed old new remaining later given later_given last empty 
   does = record { goes_on = inl (subst IsOpenHead (came_is old new remaining later empty reads.0) reads.1); nothing = keeps };
 }
 
--- Lemmas on calls that write a response.
+-- Lemmas: if a call of `handle` read a request and wrote the response, then the call satisfies
+-- `Handles`, the contract of serving one request.
 
 pub does_reply : {B : Type 0} (ledger : B → Ledger) (at : ℕ) (old new : Office B) (link : Passage) (read : List ℕ) (result : Result (Unit {0}) HandleFault)
     → IsEnd result → Replies ledger at old new link read result → Does ledger at old new link read result
@@ -144,7 +148,8 @@ replied ledger at old new inbox full seen result remaining mid later given given
       });
     }
 
--- Lemmas on response writers whose buffered bytes were all written.
+-- Lemmas on a response writer, from its creation with an empty buffer until all buffered bytes were
+-- written.
 
 pub write_first : (base given : Option (List ℕ)) (out : Outgoing) → out.given ≡ given → out.buffered ≡ [] → Keeps base given → HasPut base out []
 write_first base given out is none keeps = record {
@@ -163,8 +168,8 @@ is_end (Ok x) (Some why) = tt
 pub ends_well : (sent : Result (Unit {0}) LinkFailed) (cut : Option Refusal) (result : Result (Unit {0}) HandleFault) → result ≡ ended sent cut → IsEnd result
 ends_well sent cut result is = subst IsEnd (sym is) (is_end sent cut)
 
--- After two consecutive calls of a response writer, at most one failed write is counted, because no
--- write follows a failed write.
+-- Two consecutive calls of a response writer count at most one failed write in all, because the
+-- writer makes no write after a failed write.
 risen_twice : (a b c : Bool) (count : ℕ) → (a ≡ true → b ≡ true) → (b ≡ true → c ≡ true) → risen (c && not b) (risen (b && not a) count) ≡ risen (c && not a) count
 risen_twice true true true count ab bc = refl
 risen_twice true true false count ab bc = refl
@@ -226,7 +231,8 @@ few_takes result old new taken later none takes count is =
     let few = new.few in
     omega (arith, ended, few)
 
--- Lemmas on calls in which no memory for the request can be allocated.
+-- Lemmas: if memory for the request runs out, then a call of `handle` still satisfies `Handles`,
+-- the contract of serving one request.
 
 bare_on : {B : Type 0} (office : Office B) (link : Passage) (read : List ℕ) → ReadsOnBare link read → ReadsOn office office link read
 bare_on office link read h = record { goes_on = h.goes_on; nothing = h.nothing; unchanged = refl }
@@ -259,8 +265,8 @@ bare_does : (link : Passage) (read : List ℕ) (sent : Result (Unit {0}) LinkFai
 bare_does link read (Ok x) h = h
 bare_does link read (Err e) h = h
 
--- If a call had no memory for a request and read a request head, then it wrote the response that
--- memory ran out.
+-- If memory for a request ran out and the program read a request head, then the program wrote the
+-- response that memory ran out.
 pub bare_replied : (inbox full : Inbox) (head_state : HeadState) (sent : Result (Unit {0}) LinkFailed) (result : Result (Unit {0}) HandleFault)
     (remaining mid later given given_mid later_given : Option (List ℕ)) (was between last : Option LastTake)
     → bytes_in inbox ≡ [] → ReadsHead (Ok head_state) (bytes_in inbox) (bytes_in full) remaining mid → StopsAtOnce IsOpenHead inbox full was between → Keeps given given_mid

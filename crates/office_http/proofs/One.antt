@@ -1,4 +1,4 @@
--- Lemmas: a request has only one response.
+-- Lemmas: the specification allows at most one response to a request.
 use Rattle.std.proofs.Common.{◌≡◌, ◌∙◌, ℕ, false, List, Option, Some, None, Result, inl, inr, refl, sym, ap, subst}
 use Rattle.office_http.specs.declared.messages.commands.fault.CommandFault.{CommandFault}
 use Rattle.office_http.specs.Messages.HeadTests.{Start, head_fault}

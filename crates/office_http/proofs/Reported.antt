@@ -99,7 +99,7 @@ some_rows n count is = grind (arith, nat_tests)
 below : {n : ℕ} → n < 18446744073709551616 → n ≤ most
 below h = omega (arith, h)
 
--- The Ok result of a query whose rows were reported.
+-- The result `Ok` of a query whose rows were all reported.
 abbrev whole_answer : Unit {0} → Result (Unit {0}) Refusal
 whole_answer x = Ok x
 
@@ -127,14 +127,15 @@ nil_take (suc n) = refl
 
 module _ {B : Type 0} (ledger : B → Ledger) (past : History) (at : ℕ) (read : List ℕ) (old new : Run B) where
   -- States that if the reason of a refusal is `Stopped`, then the program already refused all
-  -- events before the call.
+  -- events before the query.
   abbrev Reported : Refusal → Type 0
   Reported why = why ≡ refusal.Stopped → is_stopped old ≡ true
 
   abbrev Answers : Result (Unit {0}) Refusal → Type 0
   Answers answer = answer ≡ Err refusal.Stopped → is_stopped old ≡ true
 
-  -- If a report ended without a failure, then it is the complete response.
+  -- If all rows of a report and its last line were written without a failure, then the written
+  -- bytes are the complete response.
   whole_served : (text : List ℕ) (from out : Outgoing) (cut : Option Refusal) → failures_of ledger new ≡ failures_of ledger old → AsksNothing routes read
       → ((office : Office) → AnswersAt (ledger (books_in old)).zone past at office → IsReply office routes read (text_head ++ text))
       → StandsStill ledger past old new → sending.Puts from out (text_head ++ text) × (cut ≡ None) → Puts ledger past at read old new from out cut
@@ -208,7 +209,8 @@ module _ {B : Type 0} (ledger : B → Ledger) (past : History) (at : ℕ) (read 
         puts = subst (λ o. sending.Puts from o put) (sym ends.0) puts;
       })
 
-  -- If the store fails after some rows of a report, the written bytes are the lines of these rows.
+  -- If the store fails after some rows of a report, then the written bytes are the response's head
+  -- and the lines of these rows.
   after_rows : {T : Type 0} (line : T → List ℕ) (rows first : List T) (n : ℕ) (start lines : Report) (why : Refusal) (out : Outgoing) (cut : Option Refusal)
       → first ≡ take n rows → TakesAll (takes_lines line) start first lines → start.count ≡ 0 → EndsReport lines (Err why) out cut
       → IsOutside ⊥ (failures_of ledger old) (failures_of ledger new) why → Reported why → AsksNothing routes read
@@ -250,8 +252,8 @@ module _ {B : Type 0} (ledger : B → Ledger) (past : History) (at : ℕ) (read 
     | inr fails ↦ after_rows line rows (take hands.begun.0 rows) hands.begun.0 start lines why out cut refl hands.begun.1 none ends fails (λ is. reported (ap Err is)) nothing replies stands
   ]
 
-  -- If an accounting register (a named energy counter) exists, then the response to a query for its
-  -- daily energy is the complete report.
+  -- If the query for the daily energy of an accounting register (a named energy counter) succeeds,
+  -- then the response is the complete report.
   days_whole : (name : Option (List ℕ)) (start lines : Report) (x : Unit {0}) (out : Outgoing) (cut : Option Refusal)
       → HandsDays (takes_lines day_line) (ledger (books_in old)).zone (facts_of past) name (failures_of ledger old) (failures_of ledger new) start lines (Ok x)
       → start.count ≡ 0 → EndsReport lines (Ok x) out cut → AsksNothing routes read
@@ -295,7 +297,7 @@ zero_or_more : (n : ℕ) → (n ≡ 0) ⊎ (0 < n)
 zero_or_more zero = inl refl
 zero_or_more (suc n) = inr (omega arith)
 
--- A call that writes a report only appends text to the response, also if the report is cut off.
+-- The end of a report only appends text to the response, even if the report is cut off.
 ended_gives : (lines : Report) (answer : Result (Unit {0}) Refusal) (out : Outgoing) (cut : Option Refusal) → EndsReport lines answer out cut
     → (text : List ℕ) × sending.Puts lines.out out text
 ended_gives lines (Ok x) out cut ends = (_, ends.0)

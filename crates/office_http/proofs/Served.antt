@@ -1,4 +1,5 @@
--- Lemmas on the response to a request.
+-- Lemmas: the responses to queries and commands satisfy `Serves`, the contract of serving a
+-- request.
 use Rattle.std.proofs.Common.{◌≡◌, ◌∙◌, ℕ, Bool, true, false, List, Option, Some, None, Result, Ok, Err, inl, inr, refl, sym, ap, subst}
 use Rattle.std.specs.Prelude.{◌||◌}
 use Rattle.office_events.specs.declared.answers.Answer.{Answer}
@@ -24,14 +25,13 @@ use Rattle.office_http.specs.Wants.Wanting.{AsksNothing, IsAskedFor, IsNoCommand
 use Rattle.office_http.specs.Answering.{AnswersAt, reported}
 use Rattle.office_http.specs.Serving.{Lasts, Serves}
 
--- If a call executed neither a query nor a command, then the store has the same records as before
--- the call.
+-- If neither a query nor a command was executed, then the store has the same records as before.
 keeps_same : {B : Type 0} (ledger : B → Ledger) (old new : Run B) → new ≡ old → KeepsFacts (ledger (books_in old)) (ledger (books_in new))
 keeps_same {B} ledger old new same =
     subst (λ (o : Run B). KeepsFacts (ledger (books_in old)) (ledger (books_in o))) (sym same) (record { facts = λ known h. h; left = λ left may. may })
 
--- True if the program's state after a query still follows from the events that it accepted earlier
--- (`past`). After a crash, the store has the records from before the query.
+-- True if a query did not change the program's state, which is still the state after the events of
+-- `past`. Also requires that a crash after the query leaves the store with the same records.
 pub record StandsStill {B : Type 0} (ledger : B → Ledger) (past : History) (old new : Run B) : Type 0 where
   pub stands : Stands ledger past new
   pub keeps : KeepsFacts (ledger (books_in old)) (ledger (books_in new))
@@ -40,8 +40,8 @@ pub still : {B T : Type 0} (ledger : B → Ledger) (past : History) (old new : R
     → Stands ledger past old → StandsStill ledger past old new
 still ledger past old new answer asks stands = record { stands = asks.stands past stands; keeps = asks.keeps }
 
--- If a call executed nothing, and the response does not depend on the program's state, then the
--- call satisfies the contract `Serves` of serving a request.
+-- If nothing was executed, and the response does not depend on the program's state, then `Serves`
+-- holds, the contract of serving a request.
 pub reported_off : {B : Type 0} (ledger : B → Ledger) (past : History) (at : ℕ) (read : List ℕ) (old new : Run B) (text : List ℕ)
     → new ≡ old → AsksNothing routes read → ((office : Office) → IsReply office routes read text) → Stands ledger past old
     → Serves ledger past at read old new None text
@@ -70,8 +70,8 @@ no_memory ledger past at read old new same stands = record {
   leaves = inr (refl, keeps_same ledger old new same);
 }
 
--- If the program answered a query for one object, then the response with that object, or with the
--- refusal, satisfies `Serves`, the contract of serving a request.
+-- If the program answered or refused a query for one object (such as a meter), the response with
+-- this answer satisfies `Serves`.
 pub row_reported : {B T : Type 0} (ledger : B → Ledger) (past : History) (at : ℕ) (read : List ℕ) (old new : Run B) (text : T → List ℕ)
     (found : Option T) (answer : Result T Refusal) → IsRowFound found (failures_of ledger old) (failures_of ledger new) answer
     → AsksNothing routes read → ((office : Office) → AnswersAt (ledger (books_in old)).zone past at office → IsReply office routes read (reply_bytes (row_reply text (or_not_found found))))
@@ -142,20 +142,22 @@ or_none : (b : Bool) → (b || false) ≡ b
 or_none true = refl
 or_none false = refl
 
--- Executing a command does not make the program refuse further events.
+-- After a command was executed, the program refuses all events exactly if it did so before. The
+-- program's time zone is unchanged (`Lasts`).
 pub lasts_fed : {B : Type 0} (ledger : B → Ledger) (old new : Run B) (asked : Asked) (answer : Result Answer Refusal)
     → Ends ledger old new (event.Asked asked) answer → Lasts ledger old new
 lasts_fed ledger old new asked answer ends = record { stopped = ends.stops ∙ or_none (is_stopped old); clean = ends.clean; zone = ends.zone }
 
--- Answering a query does not make the program refuse further events.
+-- After a query was answered, the program refuses all events exactly if it did so before. The
+-- program's time zone is unchanged (`Lasts`).
 pub lasts_asked : {B T : Type 0} (ledger : B → Ledger) (old new : Run B) (answer : Result T Refusal) → OnlyAsks ledger old new answer → Lasts ledger old new
 lasts_asked ledger old new answer asks = record { stopped = asks.stays; clean = asks.clean; zone = asks.zone }
 
 pub lasts_same : {B : Type 0} (ledger : B → Ledger) (office : Run B) → Lasts ledger office office
 lasts_same ledger office = record { stopped = refl; clean = λ x. x; zone = refl }
 
--- If the body of a request contains no valid command, then the response that reports the body's
--- fault satisfies `Serves`, the contract of serving a request.
+-- If a request's body contains no valid command, then the response that reports the fault satisfies
+-- `Serves`, the contract of serving a request.
 pub no_command_reported : {B : Type 0} (ledger : B → Ledger) (past : History) (at : ℕ) (read : List ℕ) (office : Run B) (why : CommandFault)
     → IsNoCommand routes read why → Stands ledger past office → Serves ledger past at read office office None (reply_bytes (fault_said why))
 no_command_reported ledger past at read office why (inl memory) stands =

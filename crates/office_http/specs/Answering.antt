@@ -21,8 +21,8 @@ use Rattle.office_core.specs.Asking.{AreDaysNamed, intervals_of, or_not_found}
 use Rattle.office_http.specs.Messages.Kinds.{kind_answered}
 use Rattle.office_http.specs.Messages.Offices.{Office}
 
--- The kind of an executed command, or a damaged store if the program's answer has no kind. An
--- answer without a kind means that the store returned wrong data.
+-- The kind of an executed command. Without a kind, the result is the refusal `Damaged`, because
+-- only a store that returned wrong data leads to an answer without a kind.
 abbrev pub or_damaged : Option CommandKind → Result CommandKind Refusal
 or_damaged None = Err (refusal.Store store.Damaged)
 or_damaged (Some kind) = Ok kind

@@ -24,7 +24,7 @@ use Rattle.office_http.specs.Serving.{Serves}
 use Rattle.office_http.specs.declared.fault.HandleFault.{HandleFault}
 use Rattle.office_http.specs.declared.fault.HandleFault.TheVariants.{Read, Write, Short, TurnsUsed, Cut}
 
--- The number of the reason why a request was not served.
+-- The numeric code of the reason why a request was not served.
 abbrev pub fault_number : HandleFault → ℕ
 fault_number Read = 1
 fault_number Write = 2
@@ -32,7 +32,8 @@ fault_number Short = 3
 fault_number TurnsUsed = 4
 fault_number Cut = 5
 
--- The reason why a call could not read its request, from the cause that ended the reading.
+-- The reason why a request was not served, converted from the cause that ended the reading of the
+-- request.
 abbrev pub as_fault : TakeFault → HandleFault
 as_fault take.Read = Read
 as_fault take.Short = Short
@@ -47,15 +48,15 @@ is_link_fault (Err Short) = false
 is_link_fault (Err TurnsUsed) = false
 is_link_fault (Err Cut) = false
 
--- The result of a call that wrote a response: a failed write, a response that was cut off, or
--- success.
+-- The result of serving a request for which a response was written: `Write` if the write failed,
+-- `Cut` if the response was cut off, otherwise `Ok`.
 abbrev pub ended : (sent : Result (Unit {0}) LinkFailed) → (cut : Option Refusal)
     → Result (Unit {0}) HandleFault
 ended (Err failed) cut = Err Write
 ended (Ok x) None = Ok x
 ended (Ok x) (Some why) = Err Cut
 
--- True if the result is that of a call that wrote a response: success, a failed write, or a
+-- True if the result is possible after a response was written: success, a failed write, or a
 -- response that was cut off.
 abbrev pub IsEnd : Result (Unit {0}) HandleFault → Type 0
 IsEnd (Ok x) = Unit {0}
@@ -65,8 +66,8 @@ IsEnd (Err Read) = ⊥
 IsEnd (Err Short) = ⊥
 IsEnd (Err TurnsUsed) = ⊥
 
--- The bytes that a client's connection still delivers and those that it has received, before and
--- after a call.
+-- The state of a client's connection before and after a call: the bytes that the connection has yet
+-- to deliver, and the bytes that were written to the client. `last` is the connection's last read.
 pub record Passage : Type 0 where
   pub remaining : Option (List ℕ)
   pub later_remaining : Option (List ℕ)
@@ -74,7 +75,7 @@ pub record Passage : Type 0 where
   pub later_given : Option (List ℕ)
   pub last : Option LastTake
 
--- The model of a client's connection before and after a call, from its five parts.
+-- The model of a client's connection before and after a call, composed of its five parts.
 abbrev pub passage : (remaining later_remaining given later_given : Option (List ℕ))
     → Option LastTake
     → Passage
@@ -86,8 +87,8 @@ passage remaining later_remaining given later_given last = record {
   last = last;
 }
 
--- True if the call made no unnecessary read from the client's connection. Before the last read, the
--- bytes had neither a complete request nor an invalid head. Also true if the call read nothing.
+-- True if nothing was read from the connection, or if the last read was necessary: before that
+-- read, the bytes had neither a complete request nor an invalid head.
 abbrev pub StopsReading : (read : List ℕ) → Option LastTake → Type 0
 StopsReading read last = (read ≡ []) ⊎ TakesWhatLacks (IsUnfinished routes) [] read last
 
@@ -97,8 +98,8 @@ pub record HasHead (read : List ℕ) : Type 0 where
   pub finds : Looks read head_state
   pub come : is_open head_state ≡ false
 
--- True if the call wrote the response to the bytes `read`. If a write failed, the client received
--- only a prefix of the response.
+-- True if the program wrote the response to the bytes `read`. If a write failed, the client
+-- received only a prefix of the response.
 pub record GivesReply {B : Type 0} (ledger : B → Ledger) (past : History) (at : ℕ)
     (old new : Office B)
     (given later_given : Option (List ℕ)) (read : List ℕ) (result : Result (Unit {0}) HandleFault)
@@ -110,16 +111,16 @@ pub record GivesReply {B : Type 0} (ledger : B → Ledger) (past : History) (at 
   pub serves : Serves ledger past at read old new cut put
   pub gives : Gives sent given later_given put
 
--- True if the call wrote the response to the bytes `read`, given the history `past` of the events
--- that the program accepted earlier.
+-- True if the program wrote the response to the bytes `read`, given the history `past` of the
+-- events that the program accepted earlier.
 abbrev pub GivesReplyTo : {B : Type 0} → (read : List ℕ) → (B → Ledger) → (at : ℕ)
     → (old new : Office B) → (given later_given : Option (List ℕ)) → Result (Unit {0}) HandleFault
     → History → Type 0
 GivesReplyTo read ledger at old new given later_given result past =
     GivesReply ledger past at old new given later_given read result
 
--- True if the received bytes have a complete or an invalid head, and the call wrote a response. The
--- call read nothing after a complete request or an invalid head.
+-- True if the received bytes have a complete or an invalid head, and the program wrote the response
+-- to them. The program read nothing after a complete request or an invalid head.
 pub record Replies {B : Type 0} (ledger : B → Ledger) (at : ℕ) (old new : Office B) (link : Passage)
     (read : List ℕ) (result : Result (Unit {0}) HandleFault) : Type 0 where
   pub head : HasHead read
@@ -127,8 +128,8 @@ pub record Replies {B : Type 0} (ledger : B → Ledger) (at : ℕ) (old new : Of
   pub replies : After ledger old new
       (GivesReplyTo read ledger at old new link.given link.later_given result)
 
--- True if the received bytes have neither a complete request nor an invalid head, so the call
--- failed. The call wrote nothing and left the program's state unchanged.
+-- True if the received bytes have neither a complete request nor an invalid head, nothing was
+-- written, and the program's state is unchanged.
 pub record ReadsOn {B : Type 0} (old new : Office B) (link : Passage) (read : List ℕ) : Type 0 where
   pub goes_on : IsUnfinished routes read
   pub nothing : Keeps link.given link.later_given
@@ -145,17 +146,18 @@ Does ledger at old new link read (Err Short) =
     ReadsOn old new link read × IsAtEnd link.later_remaining
 Does ledger at old new link read (Err TurnsUsed) = ReadsOn old new link read
 
--- True if the call of `handle` read the bytes `read` from the client's connection. `Does` states
--- the effect of the call for these bytes and its result.
+-- True if the call of `handle` read some bytes from the client's connection, and `Does` holds for
+-- these bytes and the call's result.
 pub record Handles {B : Type 0} (ledger : B → Ledger) (at : ℕ) (old new : Office B) (link : Passage)
     (result : Result (Unit {0}) HandleFault) : Type 0 where
   pub read : List ℕ
   pub takes : Consumes link.remaining link.later_remaining read
   pub does : Does ledger at old new link read result
 
--- True if the connection's count of failures rises by one exactly if a read or a write failed. The
--- call made at most 100,000 reads, and exactly that many after the fault TurnsUsed. The counts stop
--- at 2^64 - 1.
+-- True if the connection's count of failures rises by one exactly when a read or a write failed.
+--
+-- The call made at most 100,000 reads, and exactly that many if it ended with the fault TurnsUsed.
+-- The counts saturate at 2^64 - 1.
 pub record CountsLink (result : Result (Unit {0}) HandleFault)
     (failed later_failed taken later_taken : ℕ)
     : Type 0 where
@@ -165,8 +167,8 @@ pub record CountsLink (result : Result (Unit {0}) HandleFault)
   pub few : (count : ℕ) → taken ≡ min count (2 ^ 64 - 1)
       → later_taken ≤ min (count + MOST_TAKES) (2 ^ 64 - 1)
 
--- True if the call had no memory for a request. After a complete or invalid head, the call wrote
--- the response that memory ran out, and executed nothing.
+-- True if the program had no memory for the request, read a complete or an invalid head, and wrote
+-- the response that memory ran out.
 pub record RepliesBare (link : Passage) (read : List ℕ) (result : Result (Unit {0}) HandleFault)
     : Type 0 where
   pub sent : Result (Unit {0}) LinkFailed
@@ -175,13 +177,13 @@ pub record RepliesBare (link : Passage) (read : List ℕ) (result : Result (Unit
   pub stops : StopsReading read link.last
   pub gives : Gives sent link.given link.later_given (reply_bytes (refused refusal.Memory))
 
--- True if the call had no memory for a request, and read neither a complete request nor an invalid
--- head. The call wrote nothing.
+-- True if the program had no memory for the request, read neither a complete request nor an invalid
+-- head, and wrote nothing.
 pub record ReadsOnBare (link : Passage) (read : List ℕ) : Type 0 where
   pub goes_on : IsUnfinished routes read
   pub nothing : Keeps link.given link.later_given
 
--- States the effect of a call that had no memory for a request, for each result of the call.
+-- States the effect of serving a request for which memory ran out, for each result of the function.
 abbrev pub DoesBare : Passage → (read : List ℕ) → Result (Unit {0}) HandleFault → Type 0
 DoesBare link read (Ok x) = RepliesBare link read (Ok x)
 DoesBare link read (Err Write) = RepliesBare link read (Err Write)
@@ -190,8 +192,8 @@ DoesBare link read (Err Read) = ReadsOnBare link read
 DoesBare link read (Err Short) = ReadsOnBare link read × IsAtEnd link.later_remaining
 DoesBare link read (Err TurnsUsed) = ReadsOnBare link read
 
--- True if the call of `handle` had no memory for a request. `DoesBare` states the effect of the
--- call for the bytes that it read.
+-- True if the program had no memory for the request, read some bytes from the client's connection,
+-- and `DoesBare` holds for these bytes.
 pub record HandlesBare (link : Passage) (result : Result (Unit {0}) HandleFault) : Type 0 where
   pub read : List ℕ
   pub takes : Consumes link.remaining link.later_remaining read

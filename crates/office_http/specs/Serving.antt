@@ -1,4 +1,4 @@
--- The response to a request, and the events that the program has accepted after the request.
+-- The response to a request, and the program's history of accepted events after the request.
 use Rattle.std.specs.Prelude.{◌≡◌, ◌⊎◌, ◌++◌, ℕ, Bool, true, List, Option, Some, None, Result}
 use Rattle.interval_core.specs.declared.zone.Zone.{Zone}
 use Rattle.office_events.specs.declared.answers.Answer.{Answer}
@@ -25,8 +25,8 @@ use Rattle.office_http.specs.Messages.WholeResponses.{IsReply}
 use Rattle.office_http.specs.Wants.Wanting.{AsksNothing, AsksOffice}
 use Rattle.office_http.specs.Answering.{AnswersAt}
 
--- True if the bytes have a request for the given command. For None, the bytes have no request for
--- any command.
+-- States that the bytes have a request for the given command. If no command is given (None), states
+-- that the bytes have no request for any command.
 abbrev pub Asks : (read : List ℕ) → Option Asked → Type 0
 Asks read None = AsksNothing routes read
 Asks read (Some asked) = AsksOffice routes read asked
@@ -37,8 +37,8 @@ with_asked past at None = past
 with_asked past at (Some asked) =
     with_answer past at (event.Asked asked) (decision_of past at (event.Asked asked))
 
--- True if the response has the program's answer, which follows from the events that it accepted
--- earlier (`past`). If the bytes have a command, then `later` is this history with the command
+-- True if the response has the program's answer, which follows from the events that the program
+-- accepted earlier (`past`). If the bytes have a command, then `later` is `past` with this command
 -- added.
 pub record IsAnswered (zone : Zone) (past : History) (at : ℕ) (read reply : List ℕ)
     (later : History)
@@ -49,8 +49,9 @@ pub record IsAnswered (zone : Zone) (past : History) (at : ℕ) (read reply : Li
   pub accepts : later ≡ with_asked past at asked
 
 -- True if the response reports that the store or memory failed, or that the program refuses all
--- events since an earlier failure. No event is accepted. The response reports an earlier failure
--- only if there was one.
+-- events since an earlier failure. No event is accepted.
+--
+-- The response reports an earlier failure only if the program refused all events before.
 pub record IsUnavailable (past : History) (had_stopped : Bool) (before after : Failures)
     (reply : List ℕ) (later : History) : Type 0 where
   pub why : Refusal
@@ -59,8 +60,9 @@ pub record IsUnavailable (past : History) (had_stopped : Bool) (before after : F
   pub reports : reply ≡ reply_bytes (refused why)
   pub unchanged : later ≡ past
 
--- True if the response belongs to the bytes `read`, given the counts of failures before and after
--- the call. If the store fails while rows are written, then the response is cut off.
+-- True if the specification allows the response for the bytes `read`, given the counts of failures
+-- before and after the call. If the store fails while rows are written, then the response is cut
+-- off.
 abbrev pub IsServed : Zone → (past : History) → (at : ℕ) → (read : List ℕ) → (had_stopped : Bool)
     → (before after : Failures) → (cut : Option Refusal) → (reply : List ℕ) → (later : History)
     → Type 0
@@ -70,8 +72,8 @@ IsServed zone past at read had_stopped before after None reply later =
 IsServed zone past at read had_stopped before after (Some why) reply later =
     IsAnswered zone past at read reply later × IsOutside ⊥ before after why
 
--- True if the written bytes `put` lack the last line of the response `reply`, which contains the
--- number of rows. The bytes may also lack rows.
+-- True if the written bytes `put` lack the last line (with the number of rows) of the response
+-- `reply`. The bytes may also lack rows.
 pub record IsCutOff (put reply : List ℕ) : Type 0 where
   pub rows : List ℕ
   pub count : ℕ
@@ -83,9 +85,8 @@ abbrev pub IsPut : (cut : Option Refusal) → (put reply : List ℕ) → Type 0
 IsPut None put reply = reply ≡ put
 IsPut (Some why) put reply = IsCutOff put reply
 
--- True if the program executed the command in the bytes, and `answer` is the program's answer.
--- After a crash, the store has all earlier records. It has the records of this command completely
--- or not at all.
+-- True if the program executed the command in the bytes. A crash then leaves the store with all
+-- earlier records, and with the records of this command completely or not at all.
 pub record IsFed (old new : Ledger) (past : History) (at : ℕ) (read : List ℕ) (later : History) :
     Type 0 where
   pub asked : Asked
@@ -94,16 +95,18 @@ pub record IsFed (old new : Ledger) (past : History) (at : ℕ) (read : List ℕ
   pub accepts : later ≡ with_answer past at (event.Asked asked) answer
   pub leaves : Leaves old new (LeftByEvent past at (event.Asked asked) answer)
 
--- True if the program executed the command in the bytes, or executed nothing. In the second case,
--- the store has all earlier records after a crash.
+-- True if the program executed the command in the bytes, or executed nothing. In both cases, the
+-- store has all earlier records after a crash.
 abbrev pub LeavesServed : (old new : Ledger) → (past : History) → (at : ℕ) → (read : List ℕ)
     → (later : History) → Type 0
 LeavesServed old new past at read later =
     IsFed old new past at read later ⊎ ((later ≡ past) × KeepsFacts old new)
 
--- True if the call wrote the response to the bytes, or a part of the response. The program's state
--- follows from the accepted events in `later`. After a crash, the store has all earlier records,
--- perhaps with those of the command in the bytes.
+-- True if the program wrote the response to the bytes, or a part of the response. The program's
+-- state is the state after the events in `later`.
+--
+-- After a crash, the store has all earlier records, and those of the command completely or not at
+-- all.
 pub record Serves {B : Type 0} (ledger : B → Ledger) (past : History) (at : ℕ) (read : List ℕ)
     (old new : Run B) (cut : Option Refusal) (put : List ℕ) : Type 0 where
   pub reply : List ℕ
@@ -114,23 +117,23 @@ pub record Serves {B : Type 0} (ledger : B → Ledger) (past : History) (at : �
   pub stands : Stands ledger later new
   pub leaves : LeavesServed (ledger (books_in old)) (ledger (books_in new)) past at read later
 
--- True if the call wrote its response through a writer, which had the state `from` before and `to`
--- after.
+-- True if the program served the request in the bytes, and wrote the response through a writer.
+-- `from` and `to` are the states of the writer before and after.
 pub record Puts {B : Type 0} (ledger : B → Ledger) (past : History) (at : ℕ) (read : List ℕ)
     (old new : Run B) (from to : Outgoing) (cut : Option Refusal) : Type 0 where
   pub put : List ℕ
   pub serves : Serves ledger past at read old new cut put
   pub puts : sending.Puts from to put
 
--- States that, for any content of the store, no request makes the program refuse further events or
--- changes its time zone. A store that has returned wrong data stays marked as not clean
--- (`is_clean`).
+-- True if the call changes neither the store's time zone nor whether the program refuses all
+-- events. Also requires that a store that is clean after the call (no wrong data was used) was
+-- clean before.
 pub record Lasts {B : Type 0} (ledger : B → Ledger) (old new : Run B) : Type 0 where
   pub stopped : is_stopped new ≡ is_stopped old
   pub clean : (ledger (books_in new)).is_clean → (ledger (books_in old)).is_clean
   pub zone : (ledger (books_in new)).zone ≡ (ledger (books_in old)).zone
 
--- True if the call served the request in the bytes, and wrote only the response to the client's
+-- True if the program served the request in the bytes, and wrote only the response to the client's
 -- connection.
 pub record PutsReply {B : Type 0} (ledger : B → Ledger) (at : ℕ) (read : List ℕ) (old new : Run B)
     (from to : Outgoing) (cut : Option Refusal) : Type 0 where
@@ -138,23 +141,23 @@ pub record PutsReply {B : Type 0} (ledger : B → Ledger) (at : ℕ) (read : Lis
   pub gives : OnlyGives from to
   pub lasts : Lasts ledger old new
 
--- True if the bytes are a query for the poll with this number, or with an invalid number. The
--- program's answer is the response.
+-- True if the bytes are a query for a poll, and the response is the program's answer. `number` is
+-- the poll's number, or None if the query has no valid number.
 pub record IsPollAsked (read : List ℕ) (number : Option ℕ) : Type 0 where
   pub nothing : AsksNothing routes read
   pub replies : (office : Office)
       → IsReply office routes read (reply_bytes (poll_reply office number))
 
--- True if the bytes are a query for a meter's energy by quarter hours, and the program's answer is
--- the response.
+-- True if the bytes are a query for a meter's energy by quarter hours, and the response is the
+-- program's answer. `meter` is the meter's name, or None if the name is invalid.
 pub record AreIntervalsAsked (read : List ℕ) (meter : Option (List ℕ)) : Type 0 where
   pub nothing : AsksNothing routes read
   pub replies : (office : Office)
       → IsReply office routes read
       (reply_bytes (lines_reply intervals_text (office.intervals meter)))
 
--- True if the bytes are a query for the daily energy of an accounting register (a named energy
--- counter), and the program's answer is the response.
+-- True if the bytes are a query for an accounting register's (a named counter's) daily energy, and
+-- the response is the program's answer.
 pub record AreDaysAsked (read : List ℕ) (register : Option (List ℕ)) : Type 0 where
   pub nothing : AsksNothing routes read
   pub replies : (office : Office)

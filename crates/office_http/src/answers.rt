@@ -94,7 +94,7 @@ fn write_intervals<'l, L: Link, B: Books>(
 }
 
 // Queries the daily energy of an accounting register (a named energy counter), and writes one line
-// a day to the response.
+// for each day to the response.
 fn write_days<'l, L: Link, B: Books>(
     bytes: &[u8],
     register: &Option<Name>,

@@ -24,8 +24,8 @@ use office_core::Office;
 use office_events::Refusal;
 use std::alloc::Global;
 
-/// Returns the result of a call that wrote a response: a failed write, a response that was cut off,
-/// or success.
+/// Returns the result of serving a request for which a response was written: `Write` if the write
+/// failed, `Cut` if the response was cut off, otherwise `Ok`.
 pub(crate) fn ended(sent: Result<(), LinkFailed>, cut: Option<Refusal>) -> Result<(), HandleFault>
     ensures { result ≡ ended sent cut }
 {

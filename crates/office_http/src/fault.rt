@@ -13,7 +13,7 @@ pub enum HandleFault {
     Read,
     /// A write to the client's connection failed.
     Write,
-    /// The client's input ended inside the request.
+    /// The client's input ended before the request was complete.
     Short,
     /// The request was still incomplete after 100,000 reads from the client's connection.
     TurnsUsed,
@@ -25,7 +25,7 @@ pub enum HandleFault {
 impl HandleFault {
     ghost use Rattle.office_http.specs.Exchange.{fault_number};
 
-    /// Returns the number of the reason. No output of the program contains this number.
+    /// Returns the numeric code of the reason. No output of the program contains this code.
     pub fn number(self) -> u8
         ensures { result ≡ fault_number self }
     {

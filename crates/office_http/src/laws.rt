@@ -1,10 +1,10 @@
-//! Theorems: a request has only one response.
+//! The theorem that the specification allows at most one response to a request.
 ghost use Rattle.office_http.specs.Laws.{RepliesAreOne};
 
 use crate::wants::bodies_give_one_command;
 
-/// Theorem: if two requests are equal and the program's answers to them are equal, then their
-/// responses are equal.
+/// Theorem: the specification allows at most one response to the same received bytes, if the
+/// program's answers to queries and commands are the same.
 pub fn replies_are_one()
     ensures { RepliesAreOne }
 {

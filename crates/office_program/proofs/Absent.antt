@@ -20,8 +20,8 @@ use Rattle.office_core.specs.Failing.{FailsOutside}
 use Rattle.office_core.specs.Taking.{IsAnswer}
 use Rattle.office_program.specs.Rounds.{NoneWaits}
 
--- True if the table entry (slot) belongs to another device than `given`, or has no polling session
--- because its device is disconnected.
+-- True if the table entry (slot) belongs to another device than `given`, or if it has no polling
+-- session. A disconnected device has no session.
 abbrev IsLeft : Option (List ℕ) → Slot → Type 0
 IsLeft given slot = is_named given slot.device.name ≡ true → slot.present ≡ None
 
@@ -42,8 +42,8 @@ first_or_later : (named : Bool) (first slot : Slot) (later : Option Slot) → co
 first_or_later true first slot later h = let same : first ≡ slot = cc in inl (refl, same)
 first_or_later false first slot later h = inr h
 
--- True if no table entry (slot) of the device `given` has a polling session, since the device is
--- disconnected.
+-- True if the device `given` has no table entry (slot) with a polling session. A disconnected
+-- device has no session.
 abbrev AreLeft : Option (List ℕ) → List Slot → Type 0
 AreLeft given slots = (slot : Slot) → slot_of slots given ≡ Some slot → slot.present ≡ None
 
@@ -66,8 +66,8 @@ never : {X : Type 0} (p : X → Bool) (xs : List X) → ((x : X) → p x ≡ fal
 never p [] h = refl
 never p (x ∷ xs) h = rw (h x) (never p xs h)
 
--- True if `why` is a reason to refuse the event `Gone` (the device is disconnected) of a connected
--- device.
+-- True if `why` is a reason to refuse the event `Gone` (the device is disconnected), for example a
+-- wrong timestamp.
 abbrev GoneRefused : (slots : List Slot) → (latest at : ℕ) → Option (List ℕ) → Closing → Refusal → Bool
 GoneRefused slots latest at given c why = is_mistimed latest at why || comes_wrongly slots (event.Gone given c) why
 
@@ -110,8 +110,8 @@ gone_or_absent history at given c None reply is on_time within reported =
 gone_or_absent history at given c (Some why) reply is on_time within reported =
     rw reported (none_waits given history (λ slot found. absent_by history at given c why slot slot.present refl on_time within found is))
 
--- Suppose that the event `Gone` (the device is disconnected) is not refused for its timestamp. Then
--- afterwards no poll of the device is pending, or the store or memory failed.
+-- Suppose that the timestamp of the event `Gone` (the device is disconnected) is valid. Then after
+-- this event no poll of the device is pending, or the store or memory failed.
 pub gone : (history : History) (at : ℕ) (given : Option (List ℕ)) (c : Closing) (before after : Failures) (reply : Result Answer Refusal)
     → nat_lt at (latest_of history) ≡ false → nat_lt moment_limit at ≡ false → IsAnswer history at (event.Gone given c) before after reply
     → NoneWaits given (with_answer history at (event.Gone given c) reply) ⊎ FailsOutside (IsAccepted history at (event.Gone given c)) before after reply

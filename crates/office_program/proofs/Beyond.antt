@@ -1,5 +1,5 @@
--- Proof that a poll that was not started has no recorded outcome, and that no poll has two recorded
--- outcomes.
+-- Proof that the store has no outcome of a poll that was not started, and at most one outcome of
+-- each poll.
 use Rattle.std.proofs.Common.{◌≡◌, inl, inr, ℕ, ◌<◌, ◌≤◌, ◌==◌, true, List, [], ◌∷◌, length, Option, Some, None, refl, sym, ap, ◌∙◌, arith}
 use Rattle.std.specs.List.{find}
 use Rattle.std.specs.Option.{is_some, option_to_list}

@@ -1,5 +1,4 @@
--- Properties of the last event of a polling round that a fault ended, and of a polling round that
--- is over.
+-- Properties of the last event of a polling round that ended early because of a fault.
 use Rattle.std.proofs.Common.{◌≡◌, ◌⊎◌, inl, inr, ℕ, nat_lt, ◌||◌, Bool, true, false, List, ◌∷◌, ◌++◌, Option, Result, Ok, Err, refl, sym, ap, ◌∙◌, subst}
 use Rattle.std.specs.Io.KnownBytes.{Appends}
 use Rattle.std.proofs.KnownBytes.{Appends-trans}
@@ -74,8 +73,9 @@ settled_or d c history office was takes_memory before after at reply stops (inr 
 abbrev pub gone_one : (device : Option (List ℕ)) → (at : ℕ) → Result Answer Refusal → Answered
 gone_one device at reply = record { at = at; event = event.Gone device closing.Failed; result = reply }
 
--- If a fault ended a polling round, and its last event was fed and reported, then the contract
--- `Closes` for ending the round holds.
+-- Suppose that a fault ended a polling round early, the event engine processed the round's last
+-- event, and the event's report was printed as required. Then `Closes`, the contract for ending the
+-- round, holds.
 pub closes : {B : Type 0} (ledger : B → Ledger) (device : Option (List ℕ)) (past : History) (begun was now : RoundState) (before office : Office B)
     (earlier : List Answered) (round : Progress) (cause fault : RoundFault) (moment at : ℕ) (reply : Result Answer Refusal)
     → Broken ledger device past begun was before earlier round cause → ReportsMoment was.moments now.moments moment
@@ -100,8 +100,8 @@ closes ledger device past begun was now before office earlier round cause fault 
           (ap (λ n. nat_lt moment_limit n) when ∙ times.1) taken.answer);
     }
 
--- Suppose that no write failed before the last event of a polling round. If the text of this event
--- was printed, then the text of all events was printed.
+-- Suppose that no write failed before the last event of a polling round. If the report of this
+-- event was printed completely, then the reports of all events were printed completely.
 pub whole_printed : (cause : RoundFault) (text more : List ℕ) (a b c : Option (List ℕ)) → (cause ≡ Output → ⊥)
     → IsPrinted {X = Unit {0}} (Err cause) text a b → Appends b c more → IsPrinted {X = Unit {0}} (Err cause) (text ++ more) a c
 whole_printed (Refused why) text more a b c other printed reported = Appends-trans a b c text more printed reported
@@ -140,8 +140,9 @@ reported_after ledger device past begun was now before office earlier round caus
     (closes ledger device past begun was now before office earlier round cause Output moment at reply broken reports is taken stops (inr refl)
     (part_printed cause (text_after past earlier) _ begun.printed was.printed now.printed other broken.printed reported.1))
 
--- Suppose that a fault other than a failed write ended a polling round. If its last event was fed
--- and printed, then the contract `Closes` for ending the round holds.
+-- Suppose that a fault other than a failed write of the output ended a polling round. The event
+-- engine processed the round's last event, and the event's report was printed, completely or in
+-- part. Then `Closes`, the contract for ending the round, holds.
 pub closes_printed : {B : Type 0} (ledger : B → Ledger) (device same : Option (List ℕ)) (past : History) (begun was now : RoundState)
     (before office : Office B) (earlier : List Answered) (round : Progress) (cause fault : RoundFault) (moment at : ℕ) → same ≡ device
     → Broken ledger device past begun was before earlier round cause → (cause ≡ Output → ⊥) → ReportsMoment was.moments now.moments moment
@@ -154,8 +155,9 @@ closes_printed ledger device same past begun was now before office earlier round
     let mine = subst P equal ends in
     reported_after ledger device past begun was now before office earlier round cause fault moment at mine.reply broken other reports is mine.taken mine.stops mine.printed
 
--- Suppose that a failed write ended a polling round. If its last event was fed but not printed,
--- then the contract `Closes` for ending the round holds.
+-- Suppose that a failed write of the output ended a polling round. If the event engine processed
+-- the round's last event and nothing was printed, then `Closes`, the contract for ending the round,
+-- holds.
 pub closes_unprinted : {B : Type 0} (ledger : B → Ledger) (device same : Option (List ℕ)) (past : History) (begun was now : RoundState)
     (before office : Office B) (earlier : List Answered) (round : Progress) (moment at : ℕ) → same ≡ device
     → Broken ledger device past begun was before earlier round Output → ReportsMoment was.moments now.moments moment

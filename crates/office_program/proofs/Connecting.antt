@@ -1,4 +1,5 @@
--- Properties of the first event of a polling round, `Connected` for its device.
+-- Properties of the first event of a polling round: the event `Connected`, which reports that the
+-- round's device is connected.
 use Rattle.std.proofs.Common.{◌≡◌, ℕ, List, [], ◌∷◌, Option, Result, Ok, Err, refl, sym, ap, ◌∙◌, subst}
 use Rattle.std.specs.Io.KnownBytes.{Appends}
 use Rattle.mb_wire.specs.Sockets.Clocks.{ReportsMoment}

@@ -8,4 +8,3 @@ pub mod Asked
 pub mod Course
 pub mod Entered
 pub mod Repeats
-pub mod Checked

@@ -25,8 +25,8 @@ m1 = codes "m1"
 abbrev desk : List ℕ
 desk = codes "desk"
 
--- Example: a meter that counts Wh, at an accounting register with at most 100 kW. This is 100,000
--- counts an hour.
+-- Example: a meter that counts Wh, with a ceiling (greatest power) of 100 kW, assigned to an
+-- accounting register. The ceiling allows 100,000 counts an hour.
 
 abbrev opening : (sf : ℤ) → (raw range : ℕ) → Opening
 opening sf raw range = record { meter = m1; register = main; ceiling = 100000; range = range; at = 1000; raw = raw; sf = sf }
@@ -57,8 +57,8 @@ exchange last rolls = command.Exchange (record {
   range = 4294967296;
 })
 
--- After an hour, an entry of 100,001 counts needs no confirmation. When the hour began, the counter
--- may have been about to advance, so the first count may need no energy.
+-- An hour after the last entry, 100,001 more counts need no confirmation. At the last entry, the
+-- counter may have been about to advance, so the first count may need no energy.
 the_most_in_an_hour : doubted_at 4600 (manual 105001 0 None) wh ≡ None
 unfolding unit_of
 the_most_in_an_hour = refl
@@ -71,8 +71,8 @@ a_second_later : doubted_at 4601 (manual 105002 0 None) wh ≡ None
 unfolding unit_of
 a_second_later = refl
 
--- If the meter's last reading is from half an hour ago, then an entry above 50,001 counts needs a
--- confirmation.
+-- If a manual entry is for a time half an hour after the last entry, then it needs a confirmation
+-- above 50,001 counts.
 the_most_half_an_hour_ago : doubted_at 4600 (manual 55001 0 (Some 2800)) wh ≡ None
 unfolding unit_of
 the_most_half_an_hour_ago = refl
@@ -81,8 +81,8 @@ one_more_half_an_hour_ago : doubted_at 4600 (manual 55002 0 (Some 2800)) wh ≡ 
 unfolding unit_of
 one_more_half_an_hour_ago = refl
 
--- The rule for manual readings also applies to a closing, the last reading of an exchanged meter,
--- and the reading before a reset or rescaling. They may need a confirmation.
+-- The rule for manual readings also applies to the last reading of a closed or exchanged meter, and
+-- to readings before a reset or rescaling. These readings may need a confirmation.
 the_most_before_an_exchange : doubted_at 4600 (exchange 105001 0) wh ≡ None
 unfolding unit_of
 the_most_before_an_exchange = refl
@@ -117,7 +117,8 @@ one_more_before_another_scale :
 unfolding unit_of
 one_more_before_another_scale = refl
 
--- An entry after a rollover counts the full range of the rollover.
+-- If the entry reports a rollover, then the counts up to the rollover are added to the counts after
+-- it.
 --
 -- The example's counter rolls over at 65,536 and counts thousandths of a Wh. A second ago it showed
 -- 65,000.
@@ -133,8 +134,8 @@ another_turn : doubted_at 1001 (manual 27242 2 None) (meter (negsuc 2) 65000 655
 unfolding unit_of
 another_turn = refl
 
--- If the office (the event engine) refuses an entry because it is not later or decreases the
--- counter, then the entry needs no confirmation. Commands without a manual entry need none either.
+-- If the office (the event engine) refuses a manual entry because it is not later or decreases the
+-- counter, the entry needs no confirmation. Commands without a manual entry need no confirmation.
 no_later : doubted_at 1000 (manual 4000000000 0 None) wh ≡ None
 unfolding unit_of
 no_later = refl

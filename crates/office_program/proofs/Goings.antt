@@ -28,8 +28,8 @@ use Rattle.office_program.proofs.Timely.{of_round, one_accepted}
 abbrev pub fed_one : (at : ℕ) → Event → Result Answer Refusal → Answered
 fed_one at e result = record { at = at; event = e; result = result }
 
--- If the office (the event engine) accepts and reports the next event of a running polling round,
--- then the round is still running.
+-- If the office (the event engine) accepts the next event of a running polling round, and the
+-- event's report is printed, the round continues.
 pub goes_on : {B : Type 0} (rounds : RoundsHold) (ledger : B → Ledger) (device : Option (List ℕ)) (past : History) (begun was now : RoundState)
     (before office : Office B) (fed : List Answered) (old new : Progress) (at : ℕ) (e : Event) (given : Answer)
     → Going ledger device past begun was before fed old → Does device (next_in past fed) e → ReportsMoment was.moments now.moments at
@@ -74,8 +74,8 @@ pub part_more : (a b c : Option (List ℕ)) (x y : List ℕ) → Appends a b x �
 part_more a b c x y first second =
     let failed : Result (Unit {0}) (Unit {0}) = Err tt in got_both failed a b c x y (x ++ y) first second refl
 
--- If the event engine accepts the next event of a running polling round, but its report could not
--- be printed, then the round ends early.
+-- If the event engine accepts the next event of a running polling round, but printing the report
+-- failed, then the round ends early.
 pub unprinted : {B : Type 0} (ledger : B → Ledger) (device : Option (List ℕ)) (past : History) (begun was now : RoundState) (before office : Office B)
     (fed : List Answered) (old new : Progress) (at : ℕ) (e : Event)
     → Going ledger device past begun was before fed old → Does device (next_in past fed) e → ReportsMoment was.moments now.moments at
@@ -107,8 +107,8 @@ fed_printed ledger past at e given was now office text (Err Output) taken h is =
     record { given = given; taken = taken; printed = subst Q is h }
 fed_printed ledger past at e given was now office text (Err TurnsUsed) taken h is = absurd h
 
--- If feeding the next event of a running polling round has a fault, then the round ends early, and
--- no frames of the event were sent.
+-- If the next event of a running polling round is refused or its report can't be printed, the round
+-- ends early and sends no frames.
 pub reported_broken : {B : Type 0} (ledger : B → Ledger) (device : Option (List ℕ)) (past : History) (begun was now : RoundState) (before office : Office B)
     (fed : List Answered) (old new : Progress) (at : ℕ) (e : Event) (cause : RoundFault)
     → Going ledger device past begun was before fed old → Does device (next_in past fed) e → ReportsMoment was.moments now.moments at
@@ -128,8 +128,8 @@ reported_broken ledger device past begun was now before office fed old new at e 
 )
 reported_broken ledger device past begun was now before office fed old new at e TurnsUsed going does reports feeds same latest = absurd feeds
 
--- If the report of an event was printed, completely or in part, then the event engine did not
--- refuse the event. So nothing is claimed about whether the engine stopped.
+-- If the report of an event was printed, completely or in part, then the event engine accepted the
+-- event. So `FeedStops`, the rule for refusals, states nothing and holds.
 pub printed_stops : (was : Bool) (e : Event) (given : Answer) (text : List ℕ) (a b : Option (List ℕ)) (result : Result Answer RoundFault)
     (now : Bool) → Prints given text a b result → FeedStops was e result now
 printed_stops was e given text a b (Ok reported) now h = tt

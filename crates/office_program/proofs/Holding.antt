@@ -1,5 +1,5 @@
 -- Proof that after each event a value of the type `Round` has the state that the definition `Holds`
--- requires, and so the defined next action.
+-- requires. The round therefore generates the required next event.
 use Rattle.std.proofs.Common.{◌≡◌, ◌⊎◌, inl, inr, ℕ, zero, suc, ◌+◌, ◌-◌, ◌^◌, min, ◌<◌, ◌≤◌, ◌==◌, nat_le, nat_lt, not, Bool, true, false, cond, List, [], ◌∷◌, ◌++◌, length, map, Option, Some, None, Ok, refl, sym, ap, ◌∙◌, subst, arith}
 use Rattle.std.specs.List.{count_by, filter}
 use Rattle.std.specs.Option.{is_none, option_and_then}
@@ -75,8 +75,10 @@ round_at device stage polls started planned sum = record {
 }
 
 -- The stage of a waiting polling round after the office (the event engine) reported outcomes of
--- polls. If none of its polls ended, it still waits. Otherwise it starts the remaining Modbus
--- reads, or ends.
+-- polls.
+--
+-- If no poll of the round ended, the round still waits. Otherwise it starts the remaining Modbus
+-- reads, ends, or waits for its other polls.
 abbrev stage_by : (none start leave : Bool) → Stage
 stage_by none start leave = cond none Waiting (cond start Starting (cond leave (Leaving closing.Gone) Waiting))
 
@@ -154,8 +156,9 @@ quiet_note first (note.Outcome poll outcome) h = absurd (let no = h poll in let 
 quiet_note first (note.Reading meter raw rolls step) h = refl
 quiet_note first (note.Held meter raw cause) h = refl
 
--- Suppose that no outcome is reported for a poll after the polling round's last one. Then each
--- outcome from its first poll on belongs to one of its polls.
+-- Suppose that no outcome is reported for polls with numbers after the round's last poll. Then each
+-- outcome that is reported for a number from the round's first poll on belongs to a poll of the
+-- round.
 ends_reported : (first : Option ℕ) (number started : ℕ) (notes : List Note) → IsFirst first number started
     → ((n : ℕ) → number + started ≤ n → reported n notes ≡ 0) → count_by (is_ending first) notes ≡ reported_from number started notes
 ends_reported None number started notes is beyond =
@@ -165,8 +168,8 @@ ends_reported (Some first) number started notes is beyond =
     ∙ ap (λ n. length (filter (is_ending (Some n)) notes)) is
     ∙ counts_from number started (is_ending (Some number)) notes (λ p o. refl) (λ one h. quiet_note number one h) beyond
 
--- True if the event may end polls: the store records the outcomes of the ended polls, and the
--- event engine reports them in notifications.
+-- The properties of an event that can end polls: the store records the outcomes of the ended polls,
+-- and the event engine reports these outcomes in notifications.
 pub record Settles (history : History) (at : ℕ) (e : Event) : Type 0 where
   pub facts : facts_of (Fed at e ∷ history)
       ≡ with_settled (next_poll (facts_of history)) at e (slots_of history) (facts_of history)
@@ -455,7 +458,7 @@ started_round laws device past fed at before after given polls started planned s
     (started_as laws device past fed at polls started planned sum way is_past.accepted
     (record { accepted = is_past.accepted.1; planned = is_past.planned.1 }))
 
--- If an event from the link is accepted, then its answer is `Noted`.
+-- If the event engine accepts an event from the link, then it answers `Noted`.
 pub noted_by : (history : History) (at : ℕ) (device : Option (List ℕ)) (e : Event) (before after : Failures) (given : Answer) → IsTaken device e
     → IsAnswer history at e before after (Ok given) → given ≡ answer.Noted
 noted_by history at device (event.Connected d) before after given taken reported = absurd taken

@@ -1,5 +1,5 @@
--- Properties of the energy of a register's meters in a range of days, and of the energy of the days
--- in the register's report.
+-- Properties of the energy of the meters of an accounting register in a range of days, and of the
+-- days in the register's report.
 use Rattle.std.proofs.Common.{◌≡◌, ℕ, ℤ, zero, suc, ◌+◌, ◌-◌, ◌<◌, ◌≤◌, ◌^◌, inl, inr, Bool, true, false, cond, Some, None, List, [], ◌∷◌, ◌++◌, map, length, get_or, refl, sym, ◌∙◌, ap, subst, arith}
 use Rattle.std.specs.Prelude.{◌<ℤ◌, ◌&&◌, All, Contains, filter, nat_le, sum_by}
 use Rattle.jiff_core.proofs.SignedLemmas.{signed_arith}
@@ -142,7 +142,7 @@ module _ (zone : Zone) (range : DayRange) where
       let day = day_of (get_or rows k d) in
       longer (int_eq (day_of row) day) row (rows_on zone rows day) (some_on rows k d (omega (arith, less)))
 
-  -- Lemmas on the days of a register's report that are in a range of days.
+  -- Lemmas on those days of an accounting register's report that are in a range of days.
 
   is_in_number : (total : DayTotal) → is_in range total.day ≡ has_day range (account_of total).day
   is_in_number total =

@@ -1,5 +1,5 @@
--- Properties of a polling round's next action after each kind of event, and of the received bytes
--- in the event.
+-- Properties of a polling round's next action after each kind of event, and of the bytes that an
+-- event contains.
 use Rattle.std.proofs.Common.{◌≡◌, ℕ, ◌==◌, nat_le, nat_lt, Bool, true, false, cond, List, [], ◌∷◌, Option, Result, Ok, Err, refl, sym, ap, subst}
 use Rattle.std.specs.List.{count_by}
 use Rattle.poll_core.specs.declared.outcome.Closing.{Closing}
@@ -45,14 +45,15 @@ pub end_next : (past : History) (fed : List Answered) (one : Answered) (given : 
 end_next past fed one given c is =
     ap (λ e. next_by e (next_after (endings_of past fed one) (reads_started (one ∷ fed)) (polls_ended past (one ∷ fed)) (reads_planned (one ∷ fed)))) is
 
--- After the event `Connected`, the next action is to start the Modbus reads, beginning at index 0.
+-- After the event `Connected`, the next action is to start the Modbus reads, beginning with the
+-- plan's read 0.
 pub connection_next : (past : History) (fed : List Answered) (one : Answered) (given : Option (List ℕ)) → one.event ≡ event.Connected given
     → next_in past (one ∷ fed) ≡ StartFrom 0
 connection_next past fed one given is =
     ap (λ e. next_by e (next_after (endings_of past fed one) (reads_started (one ∷ fed)) (polls_ended past (one ∷ fed)) (reads_planned (one ∷ fed)))) is
 
--- If a poll may have ended, then the next action is to start reads, to disconnect or to read from
--- the link, but never to connect.
+-- After an event that can end polls, the next action is to start reads, to disconnect or to read
+-- from the link. It is never to connect.
 left_not : (start leave : Bool) (n : ℕ) → cond start (StartFrom n) (cond leave Leave Take) ≡ Connect → ⊥
 left_not true leave n h = absurd (cc)
 left_not false true n h = absurd (cc)

@@ -1,5 +1,5 @@
--- Theorems on consecutive poll numbers: which of the polls are pending, and how many outcomes are
--- reported for the polls.
+-- Theorems on polls with consecutive numbers: which of the polls are pending, and how many outcomes
+-- are reported for the polls.
 use Rattle.std.proofs.Common.{◌≡◌, inl, inr, ℕ, zero, suc, ◌+◌, ◌-◌, ◌<◌, ◌≤◌, ◌==◌, nat_le, ◌&&◌, Bool, true, false, cond, List, [], ◌∷◌, ◌++◌, length, refl, sym, ap, ◌∙◌, arith, append_assoc, append-nil}
 use Rattle.std.specs.List.{filter}
 use Rattle.std.proofs.lemmas.Bool.{cases_eq, cases_lt, cond-false, cond-true, eq-eqb, le-leb, lt-leb, ne_eqb}
@@ -80,8 +80,8 @@ reported_within first (suc n) p o notes low high =
           omega arith
     ]
 
--- If no outcome is reported for a poll after the last of `count` polls, then each outcome from
--- number `first` on belongs to one of these polls.
+-- Suppose that no outcome is reported for a poll after the last of `count` polls. Then each outcome
+-- that is reported for a number from `first` on belongs to one of these polls.
 counts_more : (first count p : ℕ) (o : Outcome) (notes : List Note) (xs : List Note) → length xs ≡ reported_from first count notes → p < first + count
     → length (cond (nat_le first p) (note.Outcome p o ∷ xs) xs) ≡ reported_from first count (note.Outcome p o ∷ notes)
 counts_more first count p o notes xs so high =
@@ -128,8 +128,8 @@ counts_from first count test (note.Held meter raw cause ∷ notes) ended other b
     ∙ counts_from first count test notes ended other beyond
     ∙ reported_same first count notes (one ∷ notes) (λ n. refl)
 
--- A poll without a recorded outcome counts as one pending poll. A poll with a recorded outcome
--- counts as none.
+-- A poll counts as one pending poll if the store has no outcome of the poll, otherwise as no
+-- pending poll.
 one_open : (x n : ℕ) → length (cond (n == 0) (x ∷ []) []) ≡ 1 - n
 one_open x zero = refl
 one_open x (suc n) = ap length (cond-false (suc n == 0) (x ∷ []) [] (ne_eqb (suc n) 0 (λ e. absurd (omega (arith, e))))) ∙ omega arith

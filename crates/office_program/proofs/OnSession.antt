@@ -1,5 +1,6 @@
--- Properties of the polls that were started since a device connected (its session). The pending
--- polls fit the device's window, the number of polls it accepts at a time.
+-- Properties of the polls that were started since a device connected (its session). The number of
+-- pending polls is at most the device's window, the number of polls that the device accepts at a
+-- time.
 use Rattle.std.proofs.Common.{◌≡◌, ℕ, suc, ◌+◌, ◌≤◌, ◌==◌, Bool, true, false, cond, List, [], ◌∷◌, ◌++◌, length, map, Option, Some, None, refl, sym, ap, ◌∙◌, subst, arith, append_assoc, append-nil}
 use Rattle.std.specs.List.{cons_option, filter}
 use Rattle.std.proofs.lemmas.Bool.{cond-false, eq-eqb, ne_eqb}
@@ -28,8 +29,8 @@ use Rattle.office_books.proofs.Lookups.{find_passes}
 use Rattle.office_books.proofs.SessionLaws.{SessionLaws, number_by, numbers-push}
 use Rattle.office_program.specs.Polling.{IsOnSession, is_open}
 
--- If a change of the device table keeps the devices' names, then a lookup of a device finds its
--- changed table entry.
+-- If a change of the device table keeps the devices' names, then looking up a device in the changed
+-- table returns the device's changed entry.
 found_step : (b : Bool) (f : Slot → Slot) (one slot : Slot) (later after : Option Slot) → (later ≡ Some slot → after ≡ Some (f slot))
     → cond b (Some one) later ≡ Some slot → cond b (Some (f one)) after ≡ Some (f slot)
 found_step true f one slot later after rest h = let same : one ≡ slot = cc in ap (λ s. Some (f s)) same
@@ -42,8 +43,8 @@ found_after f keeps (one ∷ slots) given slot h =
     ap (λ (d : Device). cond (is_named given d.name) (Some (f one)) (slot_of (map f slots ++ []) given)) (keeps one)
     ∙ found_step (is_named given one.device.name) f one slot (slot_of slots given) (slot_of (map f slots ++ []) given) (found_after f keeps slots given slot) h
 
--- If a session has one more event, then its polls are the earlier polls and the polls that this
--- event starts.
+-- If one more event occurs in a session (the polls since a device connected), its started polls are
+-- added to the session's polls.
 numbers_more : (laws : SessionLaws) (device : Device) (before : List session.Event) (h : session.Event)
     → numbers_in (polls_on device false (before ++ h ∷ [])) ≡ numbers_in (polls_on device false before) ++ number_by h
 numbers_more laws device before h =
@@ -69,7 +70,8 @@ pieced : (laws : SessionLaws) (number at : ℕ) (given : Option (List ℕ)) (pie
 pieced laws number at given piece slot None is = ap (λ p. numbers_in (polls_on_present slot.device p)) is
 pieced laws number at given piece slot (Some before) is = pieced_step laws (is_named given slot.device.name) at piece slot before
 
--- If an event of a session is a timer event or a chunk of bytes, then it starts no polls.
+-- If an event of a session (the polls since a device connected) is a timer event or received bytes,
+-- it starts no polls.
 pub on_tick : (laws : SessionLaws) (number at : ℕ) (slots : List Slot) (device : Option (List ℕ)) (numbers : List ℕ)
     → IsOnSession slots device numbers → IsOnSession (map (slot_after number at [] event.Tick) slots ++ []) device numbers
 on_tick laws number at slots device numbers on = record {
@@ -87,7 +89,7 @@ on_piece laws number at given piece slots device numbers on = record {
   are = pieced laws number at given piece on.slot on.slot.present refl ∙ on.are;
 }
 
--- A session that begins with a connection has no started polls.
+-- Directly after a device connects, its session (the polls since the connection) has no polls.
 connected_step : (number at : ℕ) (slot : Slot) (named : Bool) (other : Slot) → named ≡ true
     → numbers_of_slot (cond named (record { device = slot.device; ended = slot.ended; present = Some [] }) other) ≡ []
 connected_step number at slot true other is = refl
@@ -102,7 +104,8 @@ on_connection number at slots device slot found = record {
       (find_passes (λ (one : Slot). is_named device one.device.name) slots slot found);
 }
 
--- If Modbus reads are started on a session, then their polls are added to the session's polls.
+-- If Modbus reads are started in a session (the polls since the device connected), then their polls
+-- are added to the session's polls.
 happened : (at : ℕ) (slot : Slot) (before : List session.Event) (sends : List Send)
     → with_happenings slot before (map (start_by at slot.device) sends)
     ≡ record { device = slot.device; ended = slot.ended; present = Some (before ++ map (start_by at slot.device) sends) }
@@ -121,7 +124,8 @@ sent_on laws at device before (send ∷ sends) =
     ∙ ap (λ ns. ns ++ sent_numbers sends) (numbers_more laws device before (start_by at device send))
     ∙ append_assoc (numbers_in (polls_on device false before)) (send.number ∷ []) (sent_numbers sends)
 
--- True if `after` is the table entry of a device after Modbus reads were started on its session.
+-- True if `after` is the table entry of a device after Modbus reads were started in the device's
+-- session.
 pub record IsAfterStart (at : ℕ) (slot : Slot) (before : List session.Event) (sends : List Send) (after : Slot) : Type 0 where
   pub device : after.device ≡ slot.device
   pub present : after.present ≡ Some (before ++ map (start_by at slot.device) sends)

@@ -31,7 +31,7 @@ goes_after : (none : Bool) (started ended planned : ℕ) → cond none Take (nex
 goes_after true started ended planned h = absurd (cc)
 goes_after false started ended planned h = goes_left (nat_lt started planned) (nat_le planned ended) started h
 
--- True if the event is `Gone`: a device is disconnected. After this event a polling round is over.
+-- True if the event is `Gone`: a device is disconnected. A polling round is over after this event.
 pub record IsGone (e : Event) : Type 0 where
   pub given : Option (List ℕ)
   pub cause : Closing
@@ -63,7 +63,8 @@ gone_so device given c past at e (Ok answer) before after is same ok reported =
     subst Q (sym is)
     (subst R same (gone_accepted past at given c before after answer (one_accepted past at (event.Gone given c) before after answer tt mine)))
 
--- If a polling round is over after the fed events, then none of its device's polls is pending.
+-- If a polling round is over after the events that it fed to the event engine, then none of its
+-- device's polls is pending.
 pub over_settled : (device : Option (List ℕ)) (past : History) (fed : List Answered) (before after : Failures) → next_in past fed ≡ Over
     → AreNext device past fed → AreAnswered past before after fed → NoneWaits device (history_with past fed)
 over_settled device past [] before after over next reported = absurd (cc)
@@ -88,8 +89,8 @@ is_round ledger device past begun now from to office fed round going wired over 
   settled = inr (over_settled device past fed begun.failures now.failures over going.next going.leaves.answered);
 }
 
--- If a fault ended a polling round, and the round fed its last event, then its result satisfies
--- `IsBrokenOff`, the contract for such an end.
+-- If a fault ended a polling round early, and the event engine processed the round's last event,
+-- then `IsBrokenOff` holds.
 pub is_broken_off : {B : Type 0} (ledger : B → Ledger) (device : Option (List ℕ)) (past : History) (begun was now : RoundState) (from to : Wire)
     (before office : Office B) (earlier : List Answered) (round : Progress) (cause fault : RoundFault)
     → Broken ledger device past begun was before earlier round cause → IsWired {X = Unit {0}} past from to earlier (Err cause)

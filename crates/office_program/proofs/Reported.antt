@@ -73,8 +73,8 @@ words_quiet n at number session.Silent facts = refl
 words_quiet n at number (session.Malformed malformation) facts = refl
 words_quiet n at number (session.Lost cause) facts = refl
 
--- If one more outcome is both reported and recorded, then the numbers of reported and of recorded
--- outcomes both grow by one. Otherwise both are unchanged.
+-- If one more outcome of a poll is both reported and recorded, then the numbers of the poll's
+-- reported and recorded outcomes grow by one. Otherwise both are unchanged.
 one_more : {X Y : Type 0} (b : Bool) (x : X) (xs : List X) (y : Y) (ys : List Y) → length ys ≡ 0
     → length (cond b (x ∷ xs) xs) ≡ length (cond b (y ∷ ys) ys) + length xs
 one_more true x xs y ys h = omega (arith, h)

@@ -1,5 +1,5 @@
--- An example of a polling round with three Modbus reads. The device accepts two pending polls at a
--- time.
+-- An example of a polling round with three Modbus reads, for a device that accepts at most two
+-- pending polls at a time.
 use Rattle.std.proofs.Common.{◌≡◌, [], ◌∷◌, None, Some, Ok, refl}
 use Rattle.poll_core.specs.declared.outcome.Closing.TheVariants as closing
 use Rattle.poll_core.specs.declared.outcome.Outcome.TheVariants as outcome

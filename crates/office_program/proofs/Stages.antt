@@ -33,7 +33,7 @@ use Rattle.office_program.proofs.Goings.{part_more}
 use Rattle.office_program.proofs.Nexts.{connection_next, end_next, start_next}
 use Rattle.office_program.proofs.Wires.{appends_nothing, consumes_nothing, part_of_all}
 
--- If a running polling round has a fault, then the round ends early, in the state that the
+-- If a fault occurs in a running polling round, then the round ends early, in the state that the
 -- definition `Broken` requires.
 pub broken : {B : Type 0} (ledger : B → Ledger) (device : Option (List ℕ)) (past : History) (begun now : RoundState) (office : Office B)
     (fed : List Answered) (round : Progress) (cause : RoundFault) → Going ledger device past begun now office fed round
@@ -56,8 +56,8 @@ given_broken Link h at e result a b frames unsent got = absurd unsent
 given_broken Output h at e result a b frames unsent got = (frames, outgoing_after h at e result, refl, got)
 given_broken TurnsUsed h at e result a b frames unsent got = absurd unsent
 
--- If no frames were sent for the event that ended a polling round early, then the bytes read and
--- written are those that `IsWired` requires.
+-- If a polling round ended early at an event and sent no frames for it, the bytes read and written
+-- on the link satisfy `IsWired`.
 pub wired_broken : (past : History) (from to : Wire) (fed : List Answered) (one : Answered) (e : Event) (cause : RoundFault)
     → Consumes from.remaining to.remaining (pieces_after fed ++ piece_in e) → Appends from.given to.given (frames_after past fed)
     → one.event ≡ e → IsUnsent cause one.result → IsWired {X = Unit {0}} past from to (one ∷ fed) (Err cause)
@@ -68,8 +68,8 @@ wired_broken past from to fed one e cause taken given is unsent = record {
   given = given_broken cause (history_with past fed) one.at one.event one.result from.given to.given (frames_after past fed) unsent given;
 }
 
--- If a polling round wrote all frames of an event, then the bytes read and written are those that
--- `IsWired` requires.
+-- If a polling round wrote all frames of an event, then the bytes read and written on the link
+-- satisfy `IsWired`.
 pub wired_sent : (past : History) (from mid to : Wire) (fed : List Answered) (one : Answered) (e : Event) (frames : List ℕ)
     → Consumes from.remaining mid.remaining (pieces_after fed ++ piece_in e) → Appends from.given mid.given (frames_after past fed) → one.event ≡ e
     → frames ≡ outgoing_after (history_with past fed) one.at one.event one.result → Keeps mid.remaining to.remaining
@@ -99,7 +99,7 @@ does_take device same next e is equal taken =
     let P : Option (List ℕ) → Type 0 = λ d. IsTaken d e in
     rw is (subst P equal taken)
 
--- The properties of an event that a polling round requests: it is the round's next event, and has
+-- The properties of an event that a polling round generates: it is the round's next event, and has
 -- no bytes received from the link.
 pub record Wanted (device : Option (List ℕ)) (past : History) (fed : List Answered) (e : Event) : Type 0 where
   pub does : Does device (next_in past fed) e
@@ -142,15 +142,15 @@ rests_at device Starting started wish = absurd (cc)
 rests_at device Waiting started wish = refl
 rests_at device (Leaving cause) started wish = absurd (cc)
 
--- If a polling round requests no event, then its next action is a read of the link, or the round is
--- over.
+-- If a polling round generates no event, then its next action is a read of the link, or the round
+-- is over.
 pub rests : (device : Option (List ℕ)) (past : History) (fed : List Answered) (round : Round) (now : Next) → Holds device past fed round
     → wish_of round ≡ None → next_in past fed ≡ now → next_in past fed ≡ settled now
 rests device past fed round now holds wish is =
     holds.next ∙ sym (rests_at round.device round.stage round.started wish) ∙ ap settled (sym holds.next ∙ is)
 
--- If a polling round requests no event after an event from the link, then either the round is over
--- or its next action is a read of the link.
+-- If a polling round generates no event after an event from the link, the round is over or it next
+-- reads the link.
 over_by : (now : Next) (stage : Stage) (started : ℕ) → (now ≡ Connect → ⊥) → settled now ≡ next_at stage started
     → next_at stage started ≡ over_or_take (is_over stage)
 over_by now Off started anew is = refl
@@ -180,8 +180,8 @@ pub nothing_left : (fed : List Answered) (e : Event) (from to : Wire) → piece_
     → Consumes from.remaining to.remaining (pieces_after fed ++ piece_in e)
 nothing_left fed e from to none taken = consumes_nothing from.remaining to.remaining (pieces_after fed) (piece_in e) taken none
 
--- If a read of the link returned the bytes of an event, then the bytes read so far are those of the
--- earlier events and of this event.
+-- If a read of the link returned the bytes of an event, then the bytes read are those of the
+-- earlier events and this event.
 pub taken_wire : (past : History) (from old new : Wire) (fed : List Answered) (e : Event) → IsWired {X = Unit {0}} past from old fed (Ok tt)
     → Consumes old.remaining new.remaining (piece_in e) → Keeps old.given new.given
     → Consumes from.remaining new.remaining (pieces_after fed ++ piece_in e) × Appends from.given new.given (frames_after past fed)
@@ -246,8 +246,8 @@ sent ledger device past begun from mid to now office fed one progress e (Err Lin
 sent ledger device past begun from mid to now office fed one progress e (Err Output) frames taken had is going reported are kept given only = absurd only
 sent ledger device past begun from mid to now office fed one progress e (Err TurnsUsed) frames taken had is going reported are kept given only = absurd only
 
--- If an action satisfies its contract `Steps` with a next action, then it also does with an equal
--- next action.
+-- If an action satisfies its contract `Steps` with a next action, then the action also satisfies
+-- the contract with an equal next action.
 pub next_as : {B X : Type 0} (ledger : B → Ledger) (device : Option (List ℕ)) (past : History) (begun now : RoundState) (from to : Wire) (office : Office B)
     (fed : List Answered) (progress : Progress) (result : Result X RoundFault) (first second : X → Next) → ((x : X) → first x ≡ second x)
     → Steps ledger device past begun now from to office fed progress result first → Steps ledger device past begun now from to office fed progress result second
@@ -271,8 +271,8 @@ not_taken ledger device past begun now from to office fed round same Link before
 not_taken ledger device past begun now from to office fed round same Output before after last brings going taken given = absurd brings
 not_taken ledger device past begun now from to office fed round same TurnsUsed before after last brings going taken given = absurd brings
 
--- If the result of an action says whether the polling round is over, then the next action is known:
--- none if it is over, otherwise a read of the link.
+-- The flag in an action's result, which says whether the polling round is over, determines the
+-- round's next action: none if the round is over, otherwise a read of the link.
 pub as_turn : {B : Type 0} (ledger : B → Ledger) (old new : Scene B) (now : Next) (over b : Bool)
     → StepsFrom ledger old new now (Ok over) over_or_take → over ≡ b
     → StepsFrom {X = Unit {0}} ledger old new now (Ok tt) (λ done. over_or_take b)

@@ -78,7 +78,8 @@ can_be_started history at c h =
     on_slot history at c (slot_of slots c.device) refl (not-false (can_start slots c.device) busy) crowded.1
     (ltb-false poll_limit (length (polls_in facts) + sent_count slots facts at (command.StartRound c)) few)
 
--- If a start of Modbus reads is accepted, then it sends a request for at least one read.
+-- If a start of Modbus reads is accepted, then the event engine sends a Modbus request for at least
+-- one read.
 pub some_sent : (number at : ℕ) (device : Device) (before : List session.Event) (spans : List ReadSpan) → is_startable device (Some before) ≡ true
     → (length spans == 0) ≡ false → 1 ≤ length (sends_on number at device before spans)
 some_sent number at device before [] ready some = absurd (cc)
@@ -100,8 +101,8 @@ few_sent number at device before (span ∷ spans) =
     few_step (is_startable device (Some before)) send (sends_on (number + 1) at device (before ++ start_by at device send ∷ []) spans) (length spans)
     (few_sent (number + 1) at device (before ++ start_by at device send ∷ []) spans)
 
--- The number of Modbus reads from index `from` on is at most the length of the plan minus `from`,
--- or 0.
+-- The number of a plan's Modbus reads from index `from` on is at most the length of the plan minus
+-- `from`, or is 0.
 pub reads_left : (from : ℕ) (list : Option Planned) → length (round_spans from list) + from ≤ length (round_spans 0 list)
     ⊎ (length (round_spans from list) ≡ 0)
 reads_left from None = inr refl

@@ -1,5 +1,5 @@
--- Properties of the event engine's answers to the queries for a meter's statement (the numbers
--- against which a bill is checked).
+-- Properties of the event engine's answers to the queries for a meter's statement. A statement has
+-- the numbers against which a bill is checked.
 use Rattle.std.proofs.Common.{◌≡◌, inl, inr, ℕ, zero, suc, ◌+◌, ◌-◌, ◌^◌, ◌<◌, Bool, true, false, cond, Option, Some, None, List, [], ◌∷◌, ◌++◌, map, reverse, take, drop, length, get_or, refl, sym, ap, subst, ◌∙◌, append-nil, append_assoc, arith}
 use Rattle.std.specs.Prelude.{Result, Ok, Err, ◌&&◌, All, filter, is_ok, is_some, min, nat_le, sum_by}
 use Rattle.command_io.specs.declared.status.ExitStatus.{ExitStatus}
@@ -66,7 +66,8 @@ use Rattle.office_core.proofs.SeveralAsked.{found_ok, found_so, now_as, refused_
 some_same : {X : Type 0} (x y : X) → Some x ≡ Some y → x ≡ y
 some_same x y is = cc is
 
--- If a mapped optional value is present, then the original value is present and is mapped to it.
+-- If applying a function to an optional value gives a result, then the value is present, and the
+-- function maps it to the result.
 mapped : {X Y : Type 0} (f : X → Y) (o : Option X) (y : Y) → option_map f o ≡ Some y → (x : X) × (o ≡ Some x) × (f x ≡ y)
 mapped f None y is = absurd (cc is)
 mapped f (Some x) y is = (x, refl, some_same (f x) y is)
@@ -210,7 +211,7 @@ module _ {B : Type 0} (ledger : B → Ledger) (zone : Zone) (range : DayRange) w
       refused_on ⊥ (Unit {0}) (is_there (intervals_within facts meter span)) (energy_in zone range facts meter)
       (failures_of ledger a) (failures_of ledger a) (failures_of ledger d) why (λ none. tt) (no_rows span (intervals_of facts meter)) refl hands.answer
 
-  -- Lemmas on the counts of a meter's rejected readings.
+  -- Lemmas on the counts of a meter's rejected readings in a range of days.
 
   abbrev holds_if : List Fact → (name : List ℕ) → Opening → List HeldReading
   holds_if facts name opening = holds_within span.All (holds_of facts name)
@@ -254,7 +255,7 @@ module _ {B : Type 0} (ledger : B → Ledger) (zone : Zone) (range : DayRange) w
       refused_on ⊥ (Unit {0}) (is_there (holds_named facts meter span.All)) (held_in zone range facts meter)
       (failures_of ledger a) (failures_of ledger a) (failures_of ledger d) why (λ none. tt) (no_holds facts meter) refl hands.answer
 
-  -- Lemmas on the statement of one meter, against which its bill is checked.
+  -- Lemmas on a meter's statement: the numbers against which the meter's bill is checked.
 
   abbrev by_opening : List Fact → (meter : List ℕ) → Opening → MeterStatement
   by_opening facts meter opening = reported_of zone range facts meter (Some opening)
@@ -330,7 +331,8 @@ module _ {B : Type 0} (ledger : B → Ledger) (zone : Zone) (range : DayRange) w
       (gone (held_if facts meter) (by_opening facts meter) (opening_of facts meter)) kept.failures
       (reported past (kept.stands past stands) clean)
 
-  -- Lemmas on the statements of the meters at an accounting register, one by one.
+  -- Lemmas on the statements of the meters of an accounting register, which are appended to a list
+  -- one by one.
 
   pub not_there : (a : Office B) (row : Installation) (before : List MeterStatement) → was_installed zone range row ≡ false
       → States ledger zone range (row ∷ []) a a before before (Ok tt)
@@ -386,8 +388,8 @@ module _ {B : Type 0} (ledger : B → Ledger) (zone : Zone) (range : DayRange) w
       ap (map (λ (r : Installation). statement_of zone range facts r.opening.meter)) (filter-append (was_installed zone range) xs ys)
       ∙ map-append (λ (r : Installation). statement_of zone range facts r.opening.meter) (filter (was_installed zone range) xs) (filter (was_installed zone range) ys)
 
-  -- True if the statements (reports to check a bill) of the first `i` meters were appended to a
-  -- list.
+  -- True if the statements (reports to check a bill) of the first `i` meters in `rows` were
+  -- appended to the list `before`.
   abbrev pub AreStated : (a b : Office B) → List Installation → (before after : List MeterStatement) → (i : ℕ) → Type 0
   AreStated a b rows before after i = After ledger a b (λ past. AreRecorded (facts_of past) rows
       → after ≡ before ++ statements_of zone range (facts_of past) (take i rows))
@@ -459,7 +461,7 @@ module _ {B : Type 0} (ledger : B → Ledger) (zone : Zone) (range : DayRange) w
       let found = mapped (λ r. installations_of facts register) (register_of facts register) rows is in
       subst (AreRecorded facts) found.2 (are_recorded facts register)
 
-  -- Lemmas on the statements of all meters at an accounting register.
+  -- Lemmas on the statements of all meters of an accounting register.
 
   pub statements_reported : (a b d : Office B) (register : Option (List ℕ)) (v : Vec Installation Global) (listed : List Installation) (rows : List MeterStatement)
       → listed ≡ v.items → OnlyAsks ledger a b (Ok v) → Keeps ledger b d
@@ -507,7 +509,8 @@ pub written_so : {E : Type 0} (written : Result (Unit {0}) E) (text : List ℕ) 
 written_so (Ok done) text meant status old new ends got = inl (ends, got)
 written_so (Err error) text meant status old new ends got = inr (ends, got)
 
--- If a command prints a report, then it only queries the office (the event engine).
+-- If a command only queries the office (the event engine) for a report, then it has the effect that
+-- `Asks` requires.
 pub only_asked : {B T : Type 0} (ledger : B → Ledger) (a b : Office B) (result : Result T Refusal) → OnlyAsks ledger a b result → Asks ledger a b
 only_asked ledger a b (Ok x) asks = record { reply = Ok tt; only = now_as ledger a b x tt asks }
 only_asked ledger a b (Err why) asks = record { reply = Err why; only = refused_as ledger a b why asks }

@@ -38,8 +38,8 @@ latest_within (Fed at e ∷ past) h =
 not_below_itself : (n : ℕ) → nat_lt n n ≡ false
 not_below_itself n = grind arith
 
--- The timestamp of the event `Gone` (the device is disconnected) is neither earlier than the latest
--- event nor past the largest supported timestamp.
+-- A polling round's timestamp for the event `Gone` (the device is disconnected) is not before the
+-- latest accepted event. It is not past the largest supported timestamp.
 gone_by : (back beyond : Bool) (latest moment : ℕ) → nat_lt moment latest ≡ back → nat_lt moment_limit moment ≡ beyond
     → nat_lt moment_limit latest ≡ false
     → (nat_lt (cond (back || beyond) latest moment) latest ≡ false) × (nat_lt moment_limit (cond (back || beyond) latest moment) ≡ false)
@@ -51,7 +51,8 @@ pub gone_in_time : (latest moment : ℕ) → nat_lt moment_limit latest ≡ fals
     → (nat_lt (gone_at latest moment) latest ≡ false) × (nat_lt moment_limit (gone_at latest moment) ≡ false)
 gone_in_time latest moment limit = gone_by (nat_lt moment latest) (nat_lt moment_limit moment) latest moment refl refl limit
 
--- True if the command starts Modbus reads. A polling round feeds no other command.
+-- True if the command starts Modbus reads. A polling round feeds no other command to the event
+-- engine.
 abbrev IsStart : Command → Type 0
 IsStart (command.AddDevice c) = ⊥
 IsStart (command.PutList c) = ⊥

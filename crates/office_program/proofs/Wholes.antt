@@ -22,8 +22,7 @@ use Rattle.office_program.specs.declared.progress.Progress.{Progress}
 use Rattle.office_program.proofs.Overs.{is_broken_off}
 use Rattle.office_program.proofs.Wires.{appends_nothing, part_of_all}
 
--- If an event is a connection, then the office (the event engine) sends no Modbus frames for the
--- event.
+-- For the event `Connected`, the office (the event engine) sends no Modbus frames.
 no_frames : (h : History) (at : ℕ) (d : Option (List ℕ)) (given : Answer) → outgoing_after h at (event.Connected d) (Ok given) ≡ []
 no_frames h at d answer.Noted = refl
 no_frames h at d (answer.Done kind) = refl
@@ -51,8 +50,8 @@ pub unconnected : {B : Type 0} (ledger : B → Ledger) (device : Option (List �
 unconnected ledger device past begun now w office round why h =
     inl (record { at = h.0; leaves = h.1; timed = h.2; same = refl; printed = h.3 })
 
--- If the event `Connected` of a polling round was fed but not printed, then a fault ended the
--- round.
+-- If the event engine accepted the event `Connected` of a polling round but the event's report
+-- could not be printed, a fault ended the round.
 pub unprinted : {B : Type 0} (ledger : B → Ledger) (device : Option (List ℕ)) (past : History) (begun was now : RoundState) (w : Wire)
     (before office : Office B) (round : Progress) (fault : RoundFault) → (h : Connects ledger device past begun was before round (Err Output))
     → Closes ledger device past begun now office (connection device h.0 (Ok h.1.0) ∷ []) Output fault
@@ -101,8 +100,8 @@ failures_by : (fault reported : RoundFault) (before after : ℕ) → reported �
 failures_by fault reported before after is h =
     let P : RoundFault → Type 0 = λ f. CountsFailures {X = Unit {0}} (Err f) before after in subst P (sym is) h
 
--- If the count of the link's failures fits the fault that ended a polling round, then it also fits
--- the fault that is reported, as `CountsFailures` requires.
+-- If the link's count of failures is right for the fault that ended a polling round, it is right
+-- for the fault that is reported.
 pub counts_failures : (fault reported : RoundFault) (before after : ℕ) → after ≡ risen (is_link_fault {X = Unit {0}} (Err fault)) before
     → IsReportedOf fault reported → CountsFailures {X = Unit {0}} (Err reported) before after
 counts_failures (Refused why) reported before after h (inl is) = failures_by (Refused why) reported before after is h

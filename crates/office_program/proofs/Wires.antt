@@ -15,10 +15,12 @@ consumes_nothing a b x y got none = subst (Consumes a b) (sym (ap (λ z. x ++ z)
 pub part_given : (a b : Option (List ℕ)) (bytes : List ℕ) → GivesPart a b bytes → GotPart bytes a b
 part_given a b bytes gives = (gives.part, gives.unsent, gives.whole, gives.given)
 
--- If all bytes of a text were written, then the contract for a partial write holds too.
+-- If all bytes of a text were written, then the condition for writing a part of the text is also
+-- true.
 pub part_of_all : (a b : Option (List ℕ)) (x : List ℕ) → Appends a b x → GotPart x a b
 part_of_all a b x got = (x, [], sym (append-nil x), got)
 
--- If a read of a link leaves the remaining bytes unchanged, then it has returned no bytes.
+-- If a read of a link leaves the link's remaining bytes unchanged, then the read has returned no
+-- bytes.
 pub kept_none : (a b : Option (List ℕ)) → Keeps a b → Consumes a b []
 kept_none a b h = Consumes-kept a a b [] (Consumes-nil a) h

@@ -33,15 +33,15 @@ abbrev pub wire_of : {L : Type 0} → links.Ghosts L → L → Wire
 wire_of l link = wire (l.remaining link) (l.given link)
 
 -- True if the call printed the report of an accepted event: the event engine's notifications,
--- frames and answer. If the write failed, only a part was printed.
+-- Modbus frames and answer. If the write failed, only a part of the report was printed.
 abbrev pub PrintsReported : {B W : Type 0} → writers.Ghosts W → Office B → Answer → (had holds : W)
     → Result Answer RoundFault → Type 0
 PrintsReported w office given had holds result =
     Prints given (accepted_text given (notes_in office) (outgoing_in office))
     (w.contents had) (w.contents holds) result
 
--- True if the last event of a polling round was processed by the event engine, but not printed
--- because an earlier write had failed.
+-- True if the event engine processed the last event of a polling round. Nothing was printed,
+-- because an earlier write to the output had failed.
 abbrev pub EndsSilently : {B : Type 0} → stores.Ghosts B → (at : ℕ) → Event → (old new : Office B)
     → Type 0
 EndsSilently b at gone old new = (printed moments later : Option (List ℕ))
@@ -51,7 +51,7 @@ EndsSilently b at gone old new = (printed moments later : Option (List ℕ))
 
 module _ {B W : Type 0} (b : stores.Ghosts B) (w : writers.Ghosts W) where
   -- True if an event was fed to the event engine and the engine's report of the event was printed.
-  -- This holds at any time of the clock.
+  -- The clock's time is arbitrary.
   abbrev pub FeedsAndPrints : (at : ℕ) → Event → (old new : Office B) → (had holds : W)
       → Result Answer RoundFault → Type 0
   FeedsAndPrints at e old new had holds result = (moments later : Option (List ℕ))
@@ -59,8 +59,8 @@ module _ {B W : Type 0} (b : stores.Ghosts B) (w : writers.Ghosts W) where
       (round_state (w.contents had) moments (failures_of b.ledger old))
       (round_state (w.contents holds) later (failures_of b.ledger new)) new result)
 
-  -- True if the last event of a polling round was fed to the event engine and the engine's report
-  -- was printed. This holds at any time of the clock.
+  -- True if the last event of a polling round was fed to the event engine and its report was
+  -- printed. The clock's time is arbitrary.
   abbrev pub EndsAndPrints : (at : ℕ) → Event → (cause : RoundFault) → (old new : Office B)
       → (had holds : W) → (fault : RoundFault) → Type 0
   EndsAndPrints at gone cause old new had holds fault = (moments later : Option (List ℕ))
@@ -80,22 +80,22 @@ module _ {B C W : Type 0} (b : stores.Ghosts B) (c : clocks.Ghosts C) (w : write
   abbrev pub Leaves : Type 0 → Type 1
   Leaves X = (old new : Office B) → (before after : C) → (had holds : W) → X → Type 0
 
-  -- True if the first event of a new polling round was fed to the event engine: the event
-  -- `Connected`, for the round's device.
+  -- True if the event engine was fed the first event of a new polling round: the event `Connected`,
+  -- for the round's device.
   abbrev pub ReportsConnection : (from to : Progress) → Leaves (Result (Unit {0}) RoundFault)
   ReportsConnection from to old new before after had holds result =
       After b.ledger old new (λ past. Connects b.ledger from.round.device past
       (desk_of old before had) (desk_of new after holds) new to result)
 
-  -- True if `e` was fed to the event engine, provided that the polling round is new and `e` is the
-  -- event `Connected` of its device.
+  -- States that if a polling round is new and `e` is its event `Connected`, then `e` was fed to the
+  -- event engine. States nothing otherwise.
   abbrev pub ReportsFirst : Event → (from to : Progress) → Leaves (Result (Unit {0}) RoundFault)
   ReportsFirst e from to old new before after had holds result =
       IsNew from → e ≡ event.Connected from.round.device
       → ReportsConnection from to old new before after had holds result
 
-  -- True if `e` was fed to the event engine and printed, provided that `e` is the next event of a
-  -- running polling round.
+  -- States that if `e` is the next event of a running polling round, the event engine was fed `e`
+  -- and its report was printed. States nothing otherwise.
   abbrev pub ReportsNext : Event → (from to : Progress) → Leaves (Result (Unit {0}) RoundFault)
   ReportsNext e from to old new before after had holds result =
       (device : Option (List ℕ)) (past : History) (begun : RoundState) (fed : List Answered)
@@ -104,8 +104,8 @@ module _ {B C W : Type 0} (b : stores.Ghosts B) (c : clocks.Ghosts C) (w : write
       → (one : Answered) × (one.event ≡ e)
       × Reported b.ledger device past begun (desk_of new after holds) new fed one to result
 
-  -- True if the last event of the polling round was fed to the event engine, provided that a fault
-  -- ended the round for `cause`. The last event is `Gone`: the device is disconnected.
+  -- States that if the fault `cause` ended the polling round early, then the round's last event was
+  -- fed to the event engine. This event is `Gone`: the device is disconnected.
   abbrev pub ClosesBroken : Progress → (cause : RoundFault) → Leaves RoundFault
   ClosesBroken progress cause old new before after had holds fault =
       (device : Option (List ℕ)) (past : History) (begun : RoundState) (fed : List Answered)
@@ -113,8 +113,8 @@ module _ {B C W : Type 0} (b : stores.Ghosts B) (c : clocks.Ghosts C) (w : write
       → (b.ledger (books_in new)).is_clean
       → Closes b.ledger device past begun (desk_of new after holds) new fed cause fault
 
-  -- True if the polling round is over and its link is unchanged, provided that the event engine
-  -- refused the round's event `Connected`.
+  -- States that if a polling round's event `Connected` was refused or not printed, the round ended
+  -- as `Rounds` describes, with its link unchanged.
   abbrev pub EndsUnconnected : Progress → (cause : RoundFault) → Leaves RoundFault
   EndsUnconnected progress cause old new before after had holds fault =
       (device : Option (List ℕ)) (past : History) (begun : RoundState) (wire : Wire)
@@ -144,15 +144,15 @@ module _ {L B C W : Type 0} (l : links.Ghosts L) (b : stores.Ghosts B) (c : cloc
   abbrev pub StepsBetween : Type 0 → Type 1
   StepsBetween X = (here there : Progress) → (from to : L) → Leaves b c w (Result X RoundFault)
 
-  -- True if the call performed the action `now`, provided that `now` is the polling round's next
-  -- action. Afterwards `then` gives the next action from the result.
+  -- States that if `now` is the polling round's next action, then the call performed this action.
+  -- Afterwards `then` gives the round's next action from the call's result.
   abbrev pub StepsOn : {X : Type 0} → (now : Next) → (then : X → Next) → StepsBetween X
   StepsOn now then here there from to old new before after had holds result =
       StepsFrom b.ledger (scene_of here from old before had) (scene_of there to new after holds)
       now result then
 
-  -- True if the event `e` was fed to the event engine and the engine's frames were written to the
-  -- link. `e` must be the next event of the polling round.
+  -- States that if `e` is the polling round's next event, `e` was fed to the event engine. The
+  -- engine's Modbus frames were written to the link.
   abbrev pub Puts : Event → StepsBetween (Unit {0})
   Puts e here there from to old new before after had holds result =
       (device : Option (List ℕ)) (past : History) (begun : RoundState) (first : Wire)
@@ -165,22 +165,23 @@ module _ {L B C W : Type 0} (l : links.Ghosts L) (b : stores.Ghosts B) (c : cloc
       × Steps b.ledger device past begun (desk_of b c w new after holds) first
       (wire_of l to) new (one ∷ fed) there result (λ done. next_in past (one ∷ fed))
 
-  -- True if the event that the polling round requests was fed to the event engine. If the round
-  -- requests no event, because it waits for responses or is over, then no event was fed.
+  -- True if the event that the polling round generates was fed to the event engine. If the round
+  -- generates no event, because it waits for responses or is over, then no event was fed.
   abbrev pub FeedsWanted : StepsBetween (Unit {0})
   FeedsWanted here there from to old new before after had holds result =
       (now : Next) → StepsOn now (λ done. settled now) here there from to old new before after had
       holds result
 
-  -- True if the call fed the event that the polling round requests after an event from the link.
-  -- The result is true if the round is over.
+  -- True if the call fed to the event engine the event that the polling round generated after an
+  -- event from the link, if any. The result says whether the round is over.
   abbrev pub Follows : StepsBetween Bool
   Follows here there from to old new before after had holds result =
       (now : Next) → (now ≡ Connect → ⊥)
       → StepsOn now over_or_take here there from to old new before after had holds result
 
-  -- True if an event from the link was fed to the event engine, and then the event that the polling
-  -- round requests. The result is true if the round is over.
+  -- States that if `e` came from the link, then `e` was fed to the event engine. Then the event
+  -- that the polling round generated, if any, was fed to the engine. The result says whether the
+  -- round is over.
   abbrev pub FeedsTaken : Event → StepsBetween Bool
   FeedsTaken e here there from to old new before after had holds result =
       (device : Option (List ℕ)) (past : History) (begun : RoundState) (first : Wire)
@@ -193,8 +194,8 @@ module _ {L B C W : Type 0} (l : links.Ghosts L) (b : stores.Ghosts B) (c : cloc
       × Steps b.ledger device past begun (desk_of b c w new after holds) first
       (wire_of l to) new later there result over_or_take
 
-  -- True if the link was read once, and the events that follow from the read were fed to the
-  -- event engine. The result is true if the polling round is over.
+  -- True if the link was read once, and the events that follow from the read were fed to the event
+  -- engine. The result says whether the polling round is over.
   abbrev pub TakesTurn : StepsBetween Bool
   TakesTurn = StepsOn Take over_or_take
 
@@ -207,8 +208,8 @@ module _ {L B C W : Type 0} (l : links.Ghosts L) (b : stores.Ghosts B) (c : cloc
   abbrev pub PollsOut : StepsBetween (Unit {0})
   PollsOut = StepsOn (StartFrom 0) (λ done. Over)
 
-  -- True if the call polled the device until the polling round was over. Before the call, the round
-  -- has yet to start the reads of its plan.
+  -- States that if the round had started no read of its plan before, then the call polled the
+  -- device until the polling round was over.
   abbrev pub PollsToEnd : Progress → (from to : L) → Leaves b c w (Result (Unit {0}) RoundFault)
   PollsToEnd progress from to old new before after had holds result =
       (device : Option (List ℕ)) (past : History) (begun : RoundState) (first : Wire)

@@ -2,7 +2,7 @@
 -- the office (the event engine). A polling round makes one poll for each Modbus read of a device's
 -- plan.
 --
--- Lists have the latest event first.
+-- All lists of events have the latest event first.
 use Rattle.std.specs.Prelude.{◌≡◌, ℕ, ◌+◌, ◌==◌, nat_lt, nat_le, Bool, false, List, [], ◌∷◌, Option, None, Some, Result, Ok, Err, IsOk, if◌then◌else◌}
 use Rattle.std.specs.List.{count_by}
 use Rattle.poll_core.specs.declared.outcome.Closing.TheVariants as closing
@@ -36,8 +36,8 @@ started_by (answer.Done kind) = 0
 started_by (answer.Again kind) = 0
 started_by (answer.Started first count of) = count
 
--- The number of Modbus reads in the device's plan. If the event engine's answer does not report it,
--- the number `planned` that is known so far.
+-- The number of Modbus reads in the device's plan: the number in the event engine's answer, or the
+-- number `planned` known so far if the answer reports none.
 abbrev pub planned_by : ℕ → Answer → ℕ
 planned_by planned answer.Noted = planned
 planned_by planned (answer.Done kind) = planned
@@ -50,8 +50,8 @@ abbrev pub first_after : Option ℕ → Result Answer Refusal → Option ℕ
 first_after first (Ok given) = first_by first given
 first_after first (Err why) = first
 
--- The number of started Modbus reads after the event engine answered one more event. A refusal adds
--- no read.
+-- The number of started Modbus reads after the event engine answered one more event. A refusal
+-- leaves the number unchanged.
 abbrev pub started_after : ℕ → Result Answer Refusal → ℕ
 started_after started (Ok given) = started + started_by given
 started_after started (Err why) = started
@@ -78,8 +78,8 @@ abbrev pub reads_planned : List Answered → ℕ
 reads_planned [] = 0
 reads_planned (one ∷ earlier) = planned_after (reads_planned earlier) one.result
 
--- True if the poll belongs to the polling round. Poll numbers increase, so these are the polls from
--- the round's first poll on.
+-- True if the poll with this number belongs to the polling round. Poll numbers increase, so all
+-- numbers from the round's first poll on belong to the round.
 abbrev pub is_from : (first : Option ℕ) → ℕ → Bool
 is_from None poll = false
 is_from (Some first) poll = nat_le first poll
@@ -90,7 +90,7 @@ is_ending first (note.Outcome poll outcome) = is_from first poll
 is_ending first (note.Reading meter raw rolls step) = false
 is_ending first (note.Held meter raw cause) = false
 
--- The number of polls of the polling round that ended with the event `one`.
+-- The number of polls of the polling round that ended with the latest event.
 abbrev pub endings_of : (past : History) → (earlier : List Answered) → Answered → ℕ
 endings_of past earlier one =
     count_by (is_ending (first_poll earlier))
@@ -104,7 +104,7 @@ polls_ended past (one ∷ earlier) = polls_ended past earlier + endings_of past 
 -- The next action of a polling round:
 -- - `Connect`: feed the event `Connected` to the event engine;
 -- - `StartFrom`: start the Modbus reads of the plan from index `read` on;
--- - `Leave`: feed the event `Gone` (the device is disconnected);
+-- - `Leave`: feed the event `Gone` (the device is disconnected) to the event engine;
 -- - `Take`: read an event from the link;
 -- - `Over`: none, because the round is over.
 pub data Next : Type 0 where
@@ -114,10 +114,9 @@ pub data Next : Type 0 where
   Take : Next
   Over : Next
 
--- The next action after a poll ended. If Modbus reads of the plan remain, start these reads.
---
--- If no read remains and all polls have ended, feed the event `Gone`, which ends the round.
--- Otherwise read from the link.
+-- The next action after a poll ended. If Modbus reads of the plan remain, start these reads. If no
+-- read remains and all polls have ended, feed the event `Gone`, which ends the round, to the event
+-- engine. Otherwise read from the link.
 abbrev pub next_left : (started ended planned : ℕ) → Next
 next_left started ended planned =
     if nat_lt started planned then StartFrom started
@@ -130,8 +129,8 @@ abbrev pub next_after : (endings started ended planned : ℕ) → Next
 next_after endings started ended planned =
     if endings == 0 then Take else next_left started ended planned
 
--- The next action after an event. After `Connected`, start the Modbus reads. After `Gone`, no
--- action. After any other event, `next`.
+-- The next action after an event: start the Modbus reads after `Connected`, no action after `Gone`,
+-- and after any other event the action `next`.
 abbrev pub next_by : Event → Next → Next
 next_by (event.Connected given) next = StartFrom 0
 next_by (event.Bytes given piece) next = next
@@ -162,7 +161,7 @@ abbrev pub start_from : (device : Option (List ℕ)) → ℕ → Event
 start_from device read =
     event.Command (command.StartRound (record { device = device; from = read }))
 
--- True if feeding the event `e` performs the next action of the polling round.
+-- True if feeding the event `e` to the event engine performs the next action of the polling round.
 abbrev pub Does : (device : Option (List ℕ)) → Next → Event → Type 0
 Does device Connect e = e ≡ event.Connected device
 Does device (StartFrom read) e = e ≡ start_from device read

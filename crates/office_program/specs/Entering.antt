@@ -8,4 +8,3 @@ pub mod Course
 pub mod Asking
 pub mod Entered
 pub mod Repeats
-pub mod Checked

@@ -1,12 +1,12 @@
--- The faults of a polling round, with the text that was printed and the frames that were sent
--- before a fault.
+-- The faults of a polling round, and how much text was printed and how many Modbus frames were sent
+-- before each fault.
 use Rattle.std.specs.Prelude.{ℕ, Bool, true, false, List, Option, Result, Ok, Err}
 use Rattle.std.specs.Io.KnownBytes.{Appends}
 use Rattle.sun_points.specs.Writing.{GotPart}
 use Rattle.office_program.specs.declared.fault.RoundFault.{RoundFault}
 use Rattle.office_program.specs.declared.fault.RoundFault.TheVariants.{Refused, Link, Output, TurnsUsed}
 
--- The number of a fault of a polling round, counted from 1.
+-- The numeric code of a fault of a polling round, from 1.
 abbrev pub fault_number : RoundFault → ℕ
 fault_number (Refused why) = 1
 fault_number Link = 2
@@ -21,8 +21,8 @@ is_link_fault (Err Link) = true
 is_link_fault (Err Output) = false
 is_link_fault (Err TurnsUsed) = false
 
--- True if the text was printed completely. If a write of the output failed, the text may be printed
--- in part.
+-- States that the text was printed completely. If the result is a failed write of the output
+-- (`Output`), states that the text was printed completely or in part.
 abbrev pub IsPrinted : {X : Type 0} → Result X RoundFault → (text : List ℕ)
     → (old new : Option (List ℕ)) → Type 0
 IsPrinted (Ok x) text old new = Appends old new text
@@ -31,8 +31,8 @@ IsPrinted (Err Link) text old new = Appends old new text
 IsPrinted (Err Output) text old new = GotPart text old new
 IsPrinted (Err TurnsUsed) text old new = Appends old new text
 
--- True if the frames were written to the link. If the link or the output failed, the frames may be
--- written in part.
+-- States that the Modbus frames were written to the link completely. If the link or the output
+-- failed, states that the frames were written completely or in part.
 --
 -- After a failed write of the output, the frames of the latest started Modbus reads were not sent.
 abbrev pub AreGiven : {X : Type 0} → Result X RoundFault → (frames : List ℕ)

@@ -1,5 +1,5 @@
--- The events that a polling round fed to an office (the engine that records energy), with their
--- answers, printed texts and frames. Lists have the latest event first.
+-- The events that a polling round fed to an office (the engine that records energy), and their
+-- answers, printed texts and Modbus frames. Lists have the latest event first.
 use Rattle.std.specs.Prelude.{◌≡◌, ℕ, List, [], ◌∷◌, ◌++◌, Option, Result, Ok, Err}
 use Rattle.mb_wire.specs.Sockets.Clocks.{ReportsMoment}
 use Rattle.script_text.specs.AnswerText.{accepted_text}
@@ -29,21 +29,22 @@ AreAnswered past before after (one ∷ earlier) =
     (between : Failures) × AreAnswered past before between earlier
     × IsAnswer (history_with past earlier) one.at one.event between after one.result
 
--- The text printed for an event. For an accepted event these are its notifications and the answer,
--- in the format of a script. For a refused event nothing is printed.
+-- The text printed for an event. For an accepted event, the text has the event's notifications and
+-- the answer, in the format of a script. For a refused event nothing is printed.
 abbrev pub reported_text : History → (at : ℕ) → Event → Result Answer Refusal → List ℕ
 reported_text past at e (Ok given) =
     accepted_text given (notes_after past at e (Ok given)) (outgoing_after past at e (Ok given))
 reported_text past at e (Err why) = []
 
--- The text that is printed for a list of events, in the order in which they were fed.
+-- The text that is printed for a list of events, in the order in which the events were fed to the
+-- event engine.
 abbrev pub text_after : (past : History) → List Answered → List ℕ
 text_after past [] = []
 text_after past (one ∷ earlier) =
     text_after past earlier ++ reported_text (history_with past earlier) one.at one.event one.result
 
--- The bytes of the frames that the event engine sends for a list of events, in the order in which
--- they were fed.
+-- The bytes of the Modbus frames that the event engine sends for a list of events, in the order in
+-- which the events were fed.
 abbrev pub frames_after : (past : History) → List Answered → List ℕ
 frames_after past [] = []
 frames_after past (one ∷ earlier) =
@@ -59,7 +60,8 @@ piece_in (event.Gone given closing) = []
 piece_in (event.Command c) = []
 piece_in (event.Asked asked) = []
 
--- The bytes of the device in a list of events, in the order in which they were fed.
+-- The bytes of the device in a list of events, in the order in which the events were fed to the
+-- event engine.
 abbrev pub pieces_after : List Answered → List ℕ
 pieces_after [] = []
 pieces_after (one ∷ earlier) = pieces_after earlier ++ piece_in one.event

@@ -11,7 +11,7 @@ use Rattle.office_program.specs.Opened.{WithOffice}
 use Rattle.office_program.specs.declared.http_port.ServeEnd.{ServeEnd}
 use Rattle.office_program.specs.declared.http_port.ServeEnd.TheVariants.{Served, Unopened, NoPort, Broken}
 
--- The settings of a port. They are the host names that requests may use besides the names of this
+-- The settings of an HTTP port: the host names that requests may use besides the names of this
 -- machine, and the number of connections to serve.
 pub record Port : Type 0 where
   pub names : List (List ℕ)
@@ -40,8 +40,8 @@ pub record Serves {B : Type 0} (ledger : B → Ledger) (at : Port)
   pub serves : ServesPort at then later ledger following opened left end
   pub silent : holds ≡ had
 
--- True if the event engine was opened and served HTTP on the port. If opening the engine was
--- refused, only the refusal was printed.
+-- True if the event engine was opened and served HTTP on the port. Also true if opening the engine
+-- was refused and only the refusal was printed.
 abbrev pub ReportsServing : {B : Type 0} → (B → Ledger) → (past : History) → Port
     → (moments later : Option (List ℕ)) → (books back : B) → (had holds : Option (List ℕ))
     → ServeEnd → Type 0
@@ -61,8 +61,9 @@ pub record Scene (B : Type 0) : Type 0 where
 abbrev pub scene : {B : Type 0} → B → (moments written : Option (List ℕ)) → Scene B
 scene books moments written = record { books = books; moments = moments; written = written }
 
--- The contract of the command that serves HTTP, for any accepted events that the store records. If
--- the command used no wrong result of the store, then `ReportsServing` states the result.
+-- The contract of the command that serves HTTP, for any accepted events that the store records.
+-- `ReportsServing` states the result. The contract states nothing if a wrong result of the store
+-- was used.
 abbrev pub ServesBooks : {B : Type 0} → (B → Ledger) → Port → ServeEnd → (old new : Scene B)
     → Type 0
 ServesBooks ledger at end old new =

@@ -1,5 +1,5 @@
--- The theorem on bills. The energies in the statements of a register's meters, which are reports to
--- check a bill, add up to the energy in the register's report.
+-- The theorem on bills. The energies in the statements (reports to check a bill) of an accounting
+-- register's meters add up to the energy in the register's report.
 use Rattle.std.specs.Prelude.{◌≡◌, ◌<◌, ◌≤◌, ◌^◌, List, map, All, sum_by}
 use Rattle.std.specs.List.{flat_map}
 use Rattle.interval_core.specs.Days.{account_of, AreAccounts}
@@ -17,11 +17,12 @@ use Rattle.energy_report.specs.Statements.{energy_within}
 abbrev pub HasDay : Share → Type 0
 HasDay row = row.start ≤ LAST_MOMENT
 
--- The theorem that on any range of days, the energies in the statements of a register's meters add
--- up to the energy in its report.
+-- The theorem that on any range of days, the energies in the statements of an accounting register's
+-- meters add up to the register's report.
 --
--- A statement is a report on one meter. The theorem assumes that the register's intervals are the
--- intervals of its meters, and that the report's energy is below 2^128 mWh.
+-- A statement is a report on one meter. The theorem assumes three facts. The intervals of the
+-- register are those of its meters, each interval has a civil day, and the report's energy is below
+-- 2^128 mWh.
 abbrev pub StatementsAddUp : Type 0
 StatementsAddUp = (zone : Zone) (range : DayRange) (meters : List (List Share))
     (days : List DayTotal) → let rows = flat_map (λ rows. rows) meters in

@@ -1,4 +1,4 @@
--- Properties of a call of a polling round that hold whatever the store contains.
+-- Properties of the functions of a polling round that hold whatever the store contains.
 use Rattle.std.specs.Prelude.{◌≡◌, ◌⊎◌, ◌≤◌, ℕ, ◌+◌, ◌-◌, ◌^◌, min, true, Result, Ok, Err}
 use Rattle.mb_wire.specs.Links.{risen}
 use Rattle.office_books.specs.Ledgers.{Ledger}
@@ -7,14 +7,13 @@ use Rattle.office_core.specs.declared.office.Office.{Office}
 use Rattle.office_program.specs.declared.fault.RoundFault.{RoundFault}
 use Rattle.office_program.specs.declared.fault.RoundFault.TheVariants.{Refused, Link, Output, TurnsUsed}
 
--- True if the time zone of the store is unchanged. If the store is clean after the call (no wrong
--- result of it was used), then it was clean before the call.
+-- True if the store's time zone is unchanged, and a store that is clean after the call was clean
+-- before the call. A store is clean if no wrong result of the store was used.
 pub record Lasts {B : Type 0} (ledger : B → Ledger) (old new : Office B) : Type 0 where
   pub clean : (ledger (books_in new)).is_clean → (ledger (books_in old)).is_clean
   pub zone : (ledger (books_in new)).zone ≡ (ledger (books_in old)).zone
 
--- True if the count of reads of the link grew by `takes`. The count stays at 2^64 - 1 when it is
--- reached.
+-- True if the count of reads of the link grew by `takes`. The count saturates at 2^64 - 1.
 abbrev pub AreTakes : (takes before after : ℕ) → Type 0
 AreTakes takes before after = (count : ℕ) → before ≡ min count (2 ^ 64 - 1)
     → after ≡ min (count + takes) (2 ^ 64 - 1)

@@ -1,5 +1,5 @@
--- The state of a polling round (one poll for each Modbus read of a device's plan) after its events:
--- its pending polls, and its next action.
+-- The state of a polling round after the events that it fed to the event engine: its pending polls,
+-- and its next action. A round makes one poll for each Modbus read of a device's plan.
 use Rattle.std.specs.Prelude.{◌≡◌, ℕ, zero, suc, ◌+◌, ◌≤◌, ◌==◌, Bool, true, false, List, [], ◌∷◌, ◌++◌, map, length, Option, Some, None, Ok}
 use Rattle.std.specs.List.{filter}
 use Rattle.poll_core.specs.declared.outcome.Closing.TheVariants as closing
@@ -60,7 +60,7 @@ abbrev pub IsFirst : (first : Option ℕ) → (number started : ℕ) → Type 0
 IsFirst None number started = started ≡ 0
 IsFirst (Some first) number started = first ≡ number
 
--- The state of a polling round that has fed its first event.
+-- The state of a polling round that has fed its first event to the event engine.
 --
 -- The polls of the round have consecutive numbers, and no other polls were started since the device
 -- connected. The pending polls are the polls without a recorded outcome.
@@ -79,7 +79,8 @@ pub record IsUnderWay (device : Option (List ℕ)) (past : History) (fed : List 
   pub session : IsOnSession (slots_of (history_with past fed)) device
       (from_on number (reads_started fed))
 
--- The state of a polling round before its first event: no event was fed, and no poll was started.
+-- The state of a polling round before its first event: no event was fed to the event engine, and no
+-- poll was started.
 pub record IsUnfed (fed : List Answered) (round : Round) : Type 0 where
   pub none : fed ≡ []
   pub polls : round.polls.items ≡ []
@@ -87,7 +88,7 @@ pub record IsUnfed (fed : List Answered) (round : Round) : Type 0 where
   pub planned : round.planned ≡ 0
 
 -- The state of a polling round at each stage, after the events that it fed to the office (the event
--- engine). It is the invariant of the type `Round`.
+-- engine). This state is the invariant of the type `Round`.
 abbrev pub StandsAt : Stage → (device : Option (List ℕ)) → History → List Answered → Round → Type 0
 StandsAt Off device past fed round = Unit {0}
 StandsAt Joining device past fed round = IsUnfed fed round
@@ -95,15 +96,15 @@ StandsAt Starting device past fed round = IsUnderWay device past fed round
 StandsAt Waiting device past fed round = IsUnderWay device past fed round
 StandsAt (Leaving cause) device past fed round = cause ≡ closing.Gone
 
--- True if the polling round is in the state that follows from the events that it fed, and its next
--- action is the one that the definition `next_in` requires.
+-- True if the polling round is in the state that follows from the events that it fed to the event
+-- engine. Also requires that the round's next action is the one that `next_in` gives.
 pub record Holds (device : Option (List ℕ)) (past : History) (fed : List Answered)
     (round : Round) : Type 0 where
   pub device_is : round.device ≡ device
   pub next : next_in past fed ≡ next_of round
   pub stands : StandsAt round.stage device past fed round
 
--- The polling round after an event that may disconnect its device. Any other event leaves the
+-- The polling round after an event that can disconnect its device. Any other event leaves the
 -- polling round unchanged.
 abbrev pub ended_by : Event → Round → Round
 ended_by (event.Connected given) round = round
@@ -118,8 +119,8 @@ ended_by (event.Asked asked) round = round
 abbrev pub round_after : Event → Answer → List Note → Round → Round
 round_after e given notes round = heard notes (answered (Ok given) (ended_by e round))
 
--- The next action of a polling round after it has performed an action. This assumes that none of
--- its polls ended by the action.
+-- The next action of a polling round after it has performed the given action, if the action ended
+-- none of the round's polls.
 abbrev pub settled : Next → Next
 settled Connect = StartFrom 0
 settled (StartFrom read) = Take
@@ -135,10 +136,12 @@ is_over Starting = false
 is_over Waiting = false
 is_over (Leaving cause) = false
 
--- The theorem that a polling round requests exactly the events that the definition `next_in` gives.
+-- The theorem that a polling round generates exactly the events that the definition `next_in`
+-- gives.
 --
--- Suppose that a round in the state after its events feeds the next event, and the event engine
--- accepts it. Then the round is also in the state after this event.
+-- Suppose that the events that a round fed to the event engine define its state, and the engine
+-- accepts the round's next event. Then these events with the next event define the round's new
+-- state.
 abbrev pub RoundsHold : Type 0
 RoundsHold = (device : Option (List ℕ)) (past : History) (fed : List Answered) (round : Round)
     (at : ℕ) (e : Event) (before after : Failures) (given : Answer)

@@ -28,15 +28,15 @@ pub record IsPolled {B : Type 0} (ledger : B → Ledger) (device : List ℕ)
       (passage (round_state had then (failures_of ledger opened))
       (round_state holds later (failures_of ledger left)) from to) left done
 
--- True if the device was not polled, because the connection failed. Then the event engine is
--- unchanged, and nothing was printed.
+-- True if the event engine is unchanged and nothing was printed, because no connection to the
+-- device was established.
 pub record IsLeft {B : Type 0} (had holds : Option (List ℕ)) (opened left : Office B)
     : Type 0 where
   pub same : left ≡ opened
   pub silent : holds ≡ had
 
--- The state of the event engine after the command. If the device was connected, it is the state
--- after a polling round. If no connection was established, the engine is unchanged.
+-- The state of the event engine after the command. If the device was connected, the result is the
+-- state after a polling round. If no connection was established, the engine is unchanged.
 abbrev pub PollsPort : {B : Type 0} → (B → Ledger) → (device : List ℕ)
     → (later had holds : Option (List ℕ)) → PollEnd
     → (following : History) → (then : Option (List ℕ)) → (opened left : Office B) → Type 0
@@ -55,8 +55,8 @@ PollsPortOf b c w device old new before after had holds end =
     After b.ledger old new (λ past. PollsPort b.ledger device (c.moments after) (w.contents had)
     (w.contents holds) end past (c.moments before) old new)
 
--- True if the event engine was opened and the device was polled. If opening the engine was refused,
--- only the refusal was printed.
+-- True if the event engine was opened and the device was polled. Also true if opening the engine
+-- was refused and only the refusal was printed.
 abbrev pub ReportsPolling : {B : Type 0} → (B → Ledger) → (past : History) → (device : List ℕ)
     → (moments later : Option (List ℕ)) → (books back : B) → (had holds : Option (List ℕ))
     → PollEnd → Type 0

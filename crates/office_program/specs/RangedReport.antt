@@ -1,5 +1,5 @@
--- The result of a command that reports an accounting register (a named counter of a device) on a
--- range of days. The command opens an office (the event engine) over a store.
+-- The result of a command that reports the energy of an accounting register (a named counter of a
+-- device) on a range of days. The command opens an office (the event engine) over a store.
 use Rattle.std.specs.Prelude.{◌⊎◌, ℕ, List, Option}
 use Rattle.std.specs.declared.io.Write as writers
 use Rattle.mb_wire.specs.declared.sockets.clock.Clock as clocks
@@ -17,8 +17,8 @@ use Rattle.office_program.specs.Texts.RangedReports.{RangePrints}
 use Rattle.office_program.specs.Texts.EndTexts.{ReportsEnd}
 use Rattle.office_program.specs.Opened.{OverStanding, WithAsked}
 
--- True if the register's days in the range were printed in the requested form, or the reason for a
--- refusal was printed. The event engine was only queried.
+-- True if the accounting register's days in the range were printed in the requested form, or the
+-- reason for a refusal was printed. The event engine was only queried.
 pub record ReportsRange {B : Type 0} (ledger : B → Ledger) (register : Option (List ℕ))
     (form : ReportForm) (had holds : Option (List ℕ)) (status : ExitStatus) (following : History)
     (opened left : Office B) : Type 0 where
@@ -26,8 +26,8 @@ pub record ReportsRange {B : Type 0} (ledger : B → Ledger) (register : Option 
       (failures_of ledger opened) (failures_of ledger left)) status had holds
   pub stands : Stands ledger following left
 
--- True if the event engine was opened for queries and the report was printed. If opening the engine
--- was refused, only the refusal was printed.
+-- True if the event engine was opened for queries and the report was printed. Also true if opening
+-- the engine was refused and only the refusal was printed.
 abbrev pub AnswersRange : {B : Type 0} → (B → Ledger) → (past : History) → (register : List ℕ)
     → ReportForm → (moments later : Option (List ℕ)) → (books back : B)
     → (had holds : Option (List ℕ)) → ExitStatus → Type 0

@@ -55,8 +55,8 @@ pub record Passage : Type 0 where
 abbrev pub passage : (begun ended : RoundState) → (from to : Wire) → Passage
 passage begun ended from to = record { begun = begun; ended = ended; from = from; to = to }
 
--- True if the event engine is in the state after the fed events. Each event has the defined answer,
--- or was refused because of a failure.
+-- True if each event has the defined answer or was refused because of a failure, and the event
+-- engine is in the state after them.
 pub record IsFed {B : Type 0} (ledger : B → Ledger) (past : History) (begun now : RoundState)
     (office : Office B)
     (fed : List Answered) : Type 0 where
@@ -73,11 +73,11 @@ NoneWaits device history = (slot : Slot) → slot_of (slots_of history) device �
 abbrev pub IsSettled : {B : Type 0} → (device : Option (List ℕ)) → History → Office B → Type 0
 IsSettled device history office = (is_stopped office ≡ true) ⊎ NoneWaits device history
 
--- True if the polling round ended without a fault: it fed each next event, and last the event
--- `Gone` (the device is disconnected).
+-- True if the polling round ended without a fault: each event that it fed to the event engine was
+-- its next event, and the last event was `Gone` (the device is disconnected).
 --
--- The bytes read from the link are those in the fed events, and the bytes written are the event
--- engine's frames. The engine's reports were printed.
+-- The bytes read from the link are those in these events, and the bytes written are the event
+-- engine's Modbus frames. The engine's reports were printed.
 pub record IsRound {B : Type 0} (ledger : B → Ledger) (device : Option (List ℕ)) (past : History)
     (through : Passage)
     (office : Office B) : Type 0 where
@@ -91,8 +91,8 @@ pub record IsRound {B : Type 0} (ledger : B → Ledger) (device : Option (List �
   pub printed : Appends through.begun.printed through.ended.printed (text_after past fed)
   pub settled : IsSettled device (history_with past fed) office
 
--- True if the event engine refused the event `Connected` of a polling round. Then no other event
--- was fed, and nothing was read, written or printed.
+-- True if the event engine refused the event `Connected` of a polling round, no other event was
+-- fed, and nothing was read, written or printed.
 pub record IsNotConnected {B : Type 0} (ledger : B → Ledger) (device : Option (List ℕ))
     (past : History) (through : Passage)
     (office : Office B) (why : Refusal) : Type 0 where
@@ -112,8 +112,8 @@ IsRefused device past why (one ∷ earlier) =
     AreNext device past earlier × Does device (next_in past earlier) one.event
     × (one.result ≡ Err why)
 
--- True if these events were fed before a fault ended a polling round. Each of them was the next
--- event, and the last one is the refused event if the event engine refused one.
+-- True if these events were fed to the event engine before a fault ended a polling round. Each
+-- event was the next event of the round. If the engine refused an event, this is the last one.
 --
 -- If memory for received bytes ran out, the fault is a refusal although the engine refused no
 -- event.
@@ -127,8 +127,9 @@ BreaksOff device past TurnsUsed fed = AreNext device past fed
 
 -- The timestamp of the event `Gone` (the device is disconnected): the clock's time `moment`.
 --
--- If the clock was set back or is past the largest supported timestamp, the timestamp `latest` of
--- the latest event. So the event engine never refuses `Gone` for its timestamp.
+-- If the clock was set back or is past the largest supported timestamp, then the timestamp of
+-- `Gone` is `latest`, that of the latest event. So the event engine never refuses `Gone` for its
+-- timestamp.
 abbrev pub gone_at : (latest moment : ℕ) → ℕ
 gone_at latest moment =
     if nat_lt moment latest || nat_lt moment_limit moment then latest else moment
@@ -143,16 +144,16 @@ pub record IsGoneAt (past : History) (begun now : Option (List ℕ)) (earlier : 
   pub reported : ReportsMoment between now moment
   pub is : at ≡ gone_at (latest_of (history_with past earlier)) moment
 
--- True if `fault` may be reported for a polling round that ended early for `cause`. It is the cause
--- itself, or a later failed write of the output.
+-- True if `fault` is a possible fault to report for a polling round that ended early for `cause`:
+-- the cause itself, or a later failed write of the output.
 abbrev pub IsReportedOf : (cause fault : RoundFault) → Type 0
 IsReportedOf cause fault = (fault ≡ cause) ⊎ (fault ≡ Output)
 
 -- True if a fault ended the polling round after the round had fed some of its events to the event
 -- engine.
 --
--- Its last event reports a failed connection (`Gone` with `Failed`). The reported fault does not
--- depend on the answer to this event.
+-- The round's last event is `Gone` with the cause `Failed` (the connection failed). The reported
+-- fault does not depend on the event engine's answer to this event.
 pub record IsBrokenOff {B : Type 0} (ledger : B → Ledger) (device : Option (List ℕ))
     (past : History) (through : Passage)
     (office : Office B) (fault : RoundFault) : Type 0 where
@@ -171,7 +172,8 @@ pub record IsBrokenOff {B : Type 0} (ledger : B → Ledger) (device : Option (Li
       through.begun.printed through.ended.printed
   pub settled : IsSettled device (history_with past (gone ∷ earlier)) office
 
--- True if the fault is that the event engine refused the polling round's event `Connected`.
+-- True if the fault is a refusal: the event engine refused the polling round's event `Connected`,
+-- and nothing else was fed.
 abbrev pub IsNotConnectedBy : {B : Type 0} → (B → Ledger) → (device : Option (List ℕ)) → History
     → Passage → Office B
     → RoundFault → Type 0
@@ -181,8 +183,8 @@ IsNotConnectedBy ledger device past through office Link = ⊥
 IsNotConnectedBy ledger device past through office Output = ⊥
 IsNotConnectedBy ledger device past through office TurnsUsed = ⊥
 
--- True for the result of a polling round. On `Ok` the round ended without a fault. Otherwise the
--- event engine refused its event `Connected`, or another fault ended the round.
+-- States the result of a polling round. On `Ok` the round ended without a fault. On an error, the
+-- event engine refused the round's event `Connected`, or another fault ended the round.
 abbrev pub Rounds : {B : Type 0} → (B → Ledger) → (device : Option (List ℕ)) → (past : History)
     → Passage → Office B
     → Result (Unit {0}) RoundFault → Type 0

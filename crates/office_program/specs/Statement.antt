@@ -1,5 +1,6 @@
--- The result of a command that prints the statements of a register's meters, from an office (the
--- event engine) that is opened over a store. A statement is a report on one meter, to check a bill.
+-- The result of a command that prints the statements of an accounting register's meters. A
+-- statement is a report on one meter, to check a bill. The command opens an office (the event
+-- engine) over a store.
 use Rattle.std.specs.Prelude.{◌⊎◌, ℕ, List, Option}
 use Rattle.std.specs.declared.io.Write as writers
 use Rattle.mb_wire.specs.declared.sockets.clock.Clock as clocks
@@ -18,8 +19,8 @@ use Rattle.office_program.specs.Texts.EndTexts.{ReportsEnd}
 use Rattle.office_program.specs.Texts.Statements.{StatementPrints}
 use Rattle.office_program.specs.Opened.{OverStanding, WithAsked}
 
--- True if the statements of the register's meters (reports to check a bill) were printed, or the
--- reason for a refusal was printed. The event engine was only queried.
+-- True if the statements (reports to check a bill) of the accounting register's meters were
+-- printed, or the reason for a refusal was printed. The event engine was only queried.
 pub record StatesMeters {B : Type 0} (ledger : B → Ledger) (zone : Zone)
     (register : Option (List ℕ)) (form : StatementForm) (had holds : Option (List ℕ))
     (status : ExitStatus) (following : History) (opened left : Office B) : Type 0 where
@@ -28,8 +29,8 @@ pub record StatesMeters {B : Type 0} (ledger : B → Ledger) (zone : Zone)
   pub stands : Stands ledger following left
 
 -- True if the event engine was opened for queries and the meters' statements (reports to check a
--- bill) were printed, in the store's time zone. If opening was refused, only the refusal was
--- printed.
+-- bill) were printed in the store's time zone. Also true if opening was refused and only the
+-- refusal was printed.
 abbrev pub ReportsStatement : {B : Type 0} → (B → Ledger) → (past : History) → (register : List ℕ)
     → StatementForm → (moments later : Option (List ℕ)) → (books back : B)
     → (had holds : Option (List ℕ)) → ExitStatus → Type 0

@@ -34,7 +34,7 @@ abbrev pub connection : (device : Option (List ℕ)) → (at : ℕ) → Result A
 connection device at result = record { at = at; event = event.Connected device; result = result }
 
 -- True if the office (the event engine) answered the event `e` with `reply`. The engine is in the
--- state after this event, and has its notifications and frames.
+-- state after this event, and has the event's notifications and Modbus frames.
 pub record IsTaken {B : Type 0} (ledger : B → Ledger) (past : History) (at : ℕ) (e : Event)
     (reply : Result Answer Refusal)
     (begun now : RoundState) (office : Office B) : Type 0 where
@@ -42,7 +42,7 @@ pub record IsTaken {B : Type 0} (ledger : B → Ledger) (past : History) (at : �
   pub answer : IsAnswer past at e begun.failures now.failures reply
   pub reported : IsReported past at e reply office
 
--- True if the event engine accepted the event, but a write of its report failed. Then at most a
+-- True if the event engine accepted the event, a write of the event's report failed, and at most a
 -- part of the report was printed.
 pub record IsUnprinted {B : Type 0} (ledger : B → Ledger) (past : History) (at : ℕ) (e : Event)
     (begun now : RoundState)
@@ -52,8 +52,8 @@ pub record IsUnprinted {B : Type 0} (ledger : B → Ledger) (past : History) (at
   pub printed : IsPrinted {X = Unit {0}} (Err Output) (reported_text past at e (Ok given)) begun.printed
       now.printed
 
--- True if the event was fed to the event engine. If the event was accepted, its report was printed,
--- or a part of the report if the write failed.
+-- True if the event was fed to the event engine. The report of an accepted event was printed, or a
+-- part of the report if the write failed.
 abbrev pub Feeds : {B : Type 0} → (B → Ledger) → History → (at : ℕ) → Event
     → (begun now : RoundState) → Office B
     → Result Answer RoundFault → Type 0
@@ -66,17 +66,17 @@ Feeds ledger past at e begun now office (Err Output) = IsUnprinted ledger past a
 Feeds ledger past at e begun now office (Err Link) = ⊥
 Feeds ledger past at e begun now office (Err TurnsUsed) = ⊥
 
--- The rule for when the event engine stops: it then refuses every event until a restart.
+-- The rule for when the event engine stops. A stopped engine refuses every event until a restart.
 --
--- The engine refuses an event with the fault `Stopped` only if it was stopped before. It stops if
--- the store or memory fails during an event that may end polls.
+-- The engine refuses an event with the refusal `Stopped` only if the engine was stopped before. The
+-- engine stops if the store or memory fails during an event that can end polls.
 pub record Stops (was : Bool) (e : Event) (reply : Result Answer Refusal) (now : Bool) : Type 0
   where
     pub before : reply ≡ Err refusal.Stopped → was ≡ true
     pub after : now ≡ (was || stops e reply)
 
--- True if the event engine followed the rule `Stops` (when it may stop) in refusing the event. For
--- any other result than a refusal, nothing is claimed.
+-- States that if the event engine refused the event, it followed the rule `Stops`, which says when
+-- the engine stops. States nothing for other results.
 abbrev pub FeedStops : (was : Bool) → Event → Result Answer RoundFault → (now : Bool) → Type 0
 FeedStops was e (Ok given) now = Unit {0}
 FeedStops was e (Err (Refused why)) now = Stops was e (Err why) now
@@ -84,13 +84,14 @@ FeedStops was e (Err Link) now = Unit {0}
 FeedStops was e (Err Output) now = Unit {0}
 FeedStops was e (Err TurnsUsed) now = Unit {0}
 
--- True if the event engine followed the rule `Stops` (when it may stop), provided that its answer
--- is a refusal.
+-- States that if the event engine's answer is a refusal, the engine followed the rule `Stops`,
+-- which says when the engine stops. States nothing for other answers.
 abbrev pub RefusedStops : (was : Bool) → Event → Result Answer Refusal → (now : Bool) → Type 0
 RefusedStops was e reply now = (why : Refusal) → reply ≡ Err why → Stops was e reply now
 
--- True if the last event of a polling round was fed and its report was printed. If the write
--- failed, a part of the report was printed, and the fault is the failed write.
+-- True if the event engine processed the last event of a polling round and the event's report was
+-- printed. If the write failed, a part of the report was printed, and the fault is the failed
+-- write.
 pub record EndsPrinted {B : Type 0} (ledger : B → Ledger) (past : History) (at : ℕ) (e : Event)
     (cause : RoundFault)
     (begun now : RoundState) (old new : Office B) (fault : RoundFault) : Type 0 where
@@ -100,16 +101,16 @@ pub record EndsPrinted {B : Type 0} (ledger : B → Ledger) (past : History) (at
   pub printed : ((fault ≡ cause) × Appends begun.printed now.printed (reported_text past at e reply))
       ⊎ ((fault ≡ Output) × GotPart (reported_text past at e reply) begun.printed now.printed)
 
--- True if the last event of a polling round was fed, but not printed because an earlier write had
--- failed.
+-- True if the event engine processed the last event of a polling round, and nothing was printed,
+-- because an earlier write of output had failed.
 pub record EndsUnprinted {B : Type 0} (ledger : B → Ledger) (past : History) (at : ℕ) (e : Event)
     (begun now : RoundState) (old new : Office B) : Type 0 where
   pub reply : Result Answer Refusal
   pub taken : IsTaken ledger past at e reply begun now new
   pub stops : RefusedStops (is_stopped old) e reply (is_stopped new)
 
--- The fault to report after the last event of a polling round. If printing the event failed,
--- `Output`. Otherwise the cause that ended the round early.
+-- The fault to report after the last event of a polling round: `Output` if printing the event
+-- failed, otherwise the cause that ended the round early.
 abbrev pub fault_after : (cause fault : RoundFault) → RoundFault
 fault_after cause (Refused why) = cause
 fault_after cause Link = cause
@@ -123,8 +124,8 @@ is_output Link = false
 is_output Output = true
 is_output TurnsUsed = false
 
--- True if the text of an answer was printed, completely on `Ok`, or in part if the write failed. No
--- other fault occurs.
+-- States that on `Ok` the text of an answer was printed completely. On an error, the write failed,
+-- and a part of the text was printed. No other fault occurs.
 abbrev pub Prints : Answer → (text : List ℕ) → (old new : Option (List ℕ))
     → Result Answer RoundFault → Type 0
 Prints given text old new (Ok reported) = (reported ≡ given) × Appends old new text
@@ -133,25 +134,28 @@ Prints given text old new (Err Link) = ⊥
 Prints given text old new (Err Output) = GotPart text old new
 Prints given text old new (Err TurnsUsed) = ⊥
 
--- The timestamp of the latest accepted event. If an event at `at` was accepted but printing its
--- report failed, this is `at`. Otherwise it is `latest`.
+-- The timestamp of the latest accepted event, after feeding an event with timestamp `at` to the
+-- event engine ended with the fault.
+--
+-- The result is `at` if the engine accepted this event but its report could not be printed,
+-- otherwise `latest`.
 abbrev pub latest_after : RoundFault → (at latest : ℕ) → ℕ
 latest_after (Refused why) at latest = latest
 latest_after Link at latest = latest
 latest_after Output at latest = at
 latest_after TurnsUsed at latest = latest
 
--- The progress of a polling round that has fed no event yet: its device is connected, and `latest`
--- is 0.
+-- The progress of a polling round that has fed no event to the event engine yet: its device is
+-- connected, and `latest` is 0.
 abbrev pub unfed : (device : Option (List ℕ)) → Progress
 unfed device = record { round = joined (unconnected device); latest = 0 }
 
--- True if the polling round has just been created, and has fed no event.
+-- True if the polling round has just been created, and has fed no event to the event engine.
 abbrev pub IsNew : Progress → Type 0
 IsNew progress = progress.round ≡ joined (unconnected progress.round.device)
 
--- The state of a running polling round. The round fed each event in the defined order, and the
--- event engine accepted and printed each of them.
+-- The state of a running polling round. The round fed each event in the defined order, the event
+-- engine accepted each event, and its reports were printed.
 pub record Going {B : Type 0} (ledger : B → Ledger) (device : Option (List ℕ)) (past : History)
     (begun now : RoundState)
     (office : Office B) (fed : List Answered) (progress : Progress) : Type 0 where
@@ -162,8 +166,8 @@ pub record Going {B : Type 0} (ledger : B → Ledger) (device : Option (List ℕ
   pub holds : Holds device past fed progress.round
   pub latest : progress.latest ≡ latest_of (history_with past fed)
 
--- The state of a polling round that was ended early for `cause`, and has yet to feed its last
--- event, `Gone` (the device is disconnected).
+-- The state of a polling round that was ended early for `cause`, and has yet to feed its last event
+-- to the event engine: `Gone` (the device is disconnected).
 pub record Broken {B : Type 0} (ledger : B → Ledger) (device : Option (List ℕ)) (past : History)
     (begun now : RoundState)
     (office : Office B) (fed : List Answered) (progress : Progress) (cause : RoundFault) : Type 0
@@ -176,15 +180,15 @@ pub record Broken {B : Type 0} (ledger : B → Ledger) (device : Option (List �
     pub device_is : progress.round.device ≡ device
     pub latest : progress.latest ≡ latest_of (history_with past fed)
 
--- True if the bytes read from the link are those in the fed events. The bytes written to the link
--- are the event engine's frames, or a part of the frames after a fault.
+-- True if the bytes read from the link are those in the fed events, and the bytes written are the
+-- event engine's Modbus frames. After a fault, only a part of the frames may have been written.
 pub record IsWired {X : Type 0} (past : History) (from to : Wire) (fed : List Answered)
     (result : Result X RoundFault) : Type 0 where
   pub taken : Consumes from.remaining to.remaining (pieces_after fed)
   pub given : AreGiven result (frames_after past fed) from.given to.given
 
--- True if the running polling round fed its next event, and the frames that the event engine will
--- send are those of this event.
+-- True if the running polling round fed its next event to the event engine. The Modbus frames that
+-- the engine will send are those of this event.
 pub record RoundGoesOn {B : Type 0} (ledger : B → Ledger) (device : Option (List ℕ))
     (past : History) (begun now : RoundState)
     (office : Office B) (fed : List Answered) (one : Answered) (progress : Progress) : Type 0 where
@@ -192,8 +196,8 @@ pub record RoundGoesOn {B : Type 0} (ledger : B → Ledger) (device : Option (Li
   pub reported : outgoing_in office
       ≡ outgoing_after (history_with past fed) one.at one.event one.result
 
--- True if no frames were sent for the event, because the event engine refused the event or printing
--- its report failed.
+-- True if no Modbus frames were sent for the event, because the event engine refused the event or
+-- printing its report failed.
 abbrev pub IsUnsent : RoundFault → Result Answer Refusal → Type 0
 IsUnsent (Refused why) result = result ≡ Err why
 IsUnsent Link result = ⊥
@@ -201,7 +205,7 @@ IsUnsent Output result = Unit {0}
 IsUnsent TurnsUsed result = ⊥
 
 -- The state after an event of a polling round. On `Ok` the round is running. On a fault the round
--- has ended early, and no frames of the event were sent.
+-- has ended early, and no Modbus frames were sent for the event.
 abbrev pub Reported : {B : Type 0} → (B → Ledger) → (device : Option (List ℕ)) → History
     → (begun now : RoundState) → Office B
     → List Answered → Answered → Progress → Result (Unit {0}) RoundFault → Type 0
@@ -239,7 +243,7 @@ scene office round_state wire progress =
 -- The contract of an action `now` of a polling round, for any running round with this progress
 -- whose next action is `now`. `Steps` states the result.
 --
--- This assumes that no wrong result of the store was used so far.
+-- States nothing if a wrong result of the store was used.
 abbrev pub StepsFrom : {B X : Type 0} → (B → Ledger) → (old new : Scene B) → (now : Next)
     → Result X RoundFault → (X → Next) → Type 0
 StepsFrom ledger old new now result next =
@@ -252,8 +256,8 @@ StepsFrom ledger old new now result next =
     × Steps ledger device past begun new.round_state from new.wire new.office later new.progress
     result next
 
--- The result of feeding the event `Connected` of a device to the event engine. Then the polling
--- round is running, the engine refused the event, or printing failed.
+-- The result of feeding the event `Connected` of a device to the event engine. Afterwards the
+-- polling round is running, or the engine refused the event, or printing failed.
 abbrev pub Connects : {B : Type 0} → (B → Ledger) → (device : Option (List ℕ)) → History
     → (begun now : RoundState) → Office B → Progress
     → Result (Unit {0}) RoundFault → Type 0
@@ -271,8 +275,8 @@ Connects ledger device past begun now office progress (Err Output) =
 Connects ledger device past begun now office progress (Err Link) = ⊥
 Connects ledger device past begun now office progress (Err TurnsUsed) = ⊥
 
--- True if a polling round that a fault ended has fed its last event. This event is `Gone` with the
--- cause `Failed`, as after a failed read or write of the link.
+-- True if a polling round that a fault ended has fed its last event to the event engine: `Gone`
+-- with the cause `Failed`, as after a failed read or write of the link.
 pub record Closes {B : Type 0} (ledger : B → Ledger) (device : Option (List ℕ)) (past : History)
     (begun now : RoundState)
     (office : Office B) (earlier : List Answered) (cause fault : RoundFault) : Type 0 where

@@ -14,8 +14,8 @@ use Rattle.office_program.specs.FedEvents.{piece_in}
 use Rattle.office_program.specs.declared.fault.RoundFault.{RoundFault}
 use Rattle.office_program.specs.declared.fault.RoundFault.TheVariants.{Refused, Link, Output, TurnsUsed}
 
--- The next action after a read of the link and its events. If the polling round is over, no action.
--- Otherwise another read of the link.
+-- The next action after a read of the link and the events that follow from the read: no action if
+-- the polling round is over, otherwise another read of the link.
 abbrev pub over_or_take : Bool → Next
 over_or_take true = Over
 over_or_take false = Take
@@ -33,8 +33,8 @@ IsEventOf device (Err failed) e = ⊥
 abbrev pub IsLast : Option LastTake → Result Took LinkFailed → Type 0
 IsLast last answer = last ≡ Some (record { room = 260; answer = answer })
 
--- True if the link was read once, and the event is the one for the result of the read. If memory
--- for the received bytes ran out, the link was not read.
+-- True if the link was read once, and the event is the one for the result of the read. Also true if
+-- memory for the received bytes ran out before the link was read.
 abbrev pub Brings : (device : Option (List ℕ)) → Result Event RoundFault → (before after : ℕ)
     → Option LastTake → Type 0
 Brings device (Ok e) before after last =

@@ -1,5 +1,5 @@
-//! The polling rounds of several devices (one poll for each Modbus read of a device's plan), and
-//! the event that each polling round requests next.
+//! The polling rounds of several devices, and the event that each round generates next. A polling
+//! round makes one poll for each Modbus read of its device's plan.
 
 mod polls;
 mod round;

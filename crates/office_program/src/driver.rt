@@ -1,5 +1,5 @@
-//! Drives an office, the engine that records energy, while it polls several devices at once. Feeds
-//! each device event to the office, and then the events that the polling rounds request.
+//! Polls several devices at once for an office, the engine that records energy. Processes each
+//! device event, and then feeds the events that the polling rounds generate to the office.
 
 mod device_events;
 mod feed;

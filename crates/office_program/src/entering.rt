@@ -1,8 +1,7 @@
 //! Enters the lines of an input into an office, the engine that records meters' energy. Each input
-//! line is a request. Its idempotency key is the caller's name and a number.
+//! line is a request, with the caller's name and a number as idempotency key.
 
 mod asking;
-mod checking;
 mod doubts;
 mod entered;
 mod entries;
@@ -15,7 +14,6 @@ mod read_line;
 mod reading;
 mod wanted;
 
-pub use checking::check_books;
 pub use entered::enter_books;
 pub use files::{MOST_FILE, NamedFiles, Shown};
 pub use laws::{inputs_act_once, requests_are_repeated};

@@ -22,7 +22,7 @@ pub enum RoundFault {
 }
 
 impl RoundFault {
-    /// Returns the number of the fault, from 1. No output of the program shows this number.
+    /// Returns the numeric code of the fault, from 1. No output of the program shows this code.
     pub fn number(self) -> u8
         ensures { result ≡ fault_number self }
     {

@@ -54,8 +54,11 @@ pub(crate) fn feed<B: Books, W: Write>(
     }
 }
 
-/// Returns the timestamp of the latest accepted event, after a fault. If the event at `at` was
-/// accepted but printing its report failed, this is `at`. Otherwise it is `latest`.
+/// Returns the timestamp of the latest accepted event, after feeding an event with timestamp `at`
+/// to the event engine ended with the fault.
+///
+/// Returns `at` if the engine accepted this event but its report could not be printed, otherwise
+/// `latest`.
 pub(crate) fn latest_after(fault: RoundFault, at: u64, latest: u64) -> u64
     ensures { result ≡ stepping.latest_after fault at latest }
 {

@@ -64,9 +64,9 @@ fn serve_port<R: Net + std::rt::Clock, B: Books, C: Clock>(
 /// Opens an event engine over a store at the clock's time, and serves requests by HTTP/1.1 on a
 /// port.
 ///
-/// The command serves `connections` connections on the port of a host, under the given host names,
-/// as `serve_connections` does. If opening the engine is refused, the command prints only `refused
-/// N` and does not open the port. Returns the store.
+/// The command serves `connections` connections on the port of a host, and accepts requests for the
+/// given host names, as `serve_connections` does. If opening the engine is refused, the command
+/// prints only `refused N` and does not open the port. Returns the store.
 pub fn serve_books<R: Net + std::rt::Clock, B: Books, C: Clock, W: Write>(
     rt: &R,
     alloc: Global,

@@ -25,7 +25,7 @@ pub use command_end::CommandEnd;
 pub use device_rounds::{Round, Stage, Sum};
 pub use driver::{DeviceEvent, turn};
 pub use entering::{
-    MOST_FILE, NamedFiles, Shown, check_books, enter_books, inputs_act_once, requests_are_repeated,
+    MOST_FILE, NamedFiles, Shown, enter_books, inputs_act_once, requests_are_repeated,
 };
 pub use fault::RoundFault;
 pub use http_port::{ServeEnd, serve_books};

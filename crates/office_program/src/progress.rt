@@ -32,7 +32,7 @@ fn end_by(round: &mut Round, event: &Event)
 }
 
 impl Progress {
-    /// Creates the progress of a polling round that has fed no event yet.
+    /// Creates the progress of a polling round that has fed no event to the event engine yet.
     pub(crate) fn new(device: Option<Name>) -> Progress
         ensures { result ≡ unfed device }
     {
@@ -41,8 +41,8 @@ impl Progress {
         Progress { round, latest: 0 }
     }
 
-    /// Updates the polling round after the office (the event engine) accepted its event: by the
-    /// event, by the engine's answer and by the notifications.
+    /// Updates the polling round after the office (the event engine) accepted the round's event: by
+    /// the event, by the engine's answer and by the notifications.
     pub(crate) fn note(&mut self, at: u64, event: &Event, answer: Answer, notes: &[Note])
         ensures round { self.new.round ≡ round_after event.now answer notes.now self.old.round }
         ensures latest { self.new.latest ≡ at }

@@ -16,8 +16,8 @@ use std::io::Write;
 /// an accounting register on a range of days.
 ///
 /// The form gives the days of the range, the period, the unit and the format. If the range has a
-/// first and a last day, the command does not read all quarter hours. It reads those of the range's
-/// days, and of two more days before and after.
+/// first and a last day, the command does not read all quarter hours. It reads only the quarter
+/// hours of these days, and of at most two days before and two days after them.
 ///
 /// If opening the engine or the report is refused, the command prints only `refused N`. If
 /// `register` is no valid name, the engine treats it as an unknown register. Returns the store.

@@ -21,8 +21,8 @@ use office_events::Name;
 use std::alloc::Global;
 use std::io::Write;
 
-/// The largest number of reads of the link in one polling round. The limit ends a round with a
-/// device that sends without end.
+/// The largest number of reads of the link in one polling round. Without this limit, a round with a
+/// device that sends endlessly would not end.
 pub const MOST_TAKES: u32 = 100_000;
 
 // Feeds the first event of a polling round to the office (the event engine): `Connected` for the
@@ -117,8 +117,9 @@ fn poll_to_end<L: Link, B: Books, C: Clock, W: Write>(
     }
 }
 
-// Ends a polling round whose first event failed. Feeds the event `Gone` (the device is
-// disconnected) to the event engine, unless the engine refused the event `Connected`.
+// Ends a polling round whose first event, `Connected`, was refused or could not be printed. Feeds
+// the event `Gone` (the device is disconnected) to the event engine, unless the engine refused
+// `Connected`.
 fn end_unconnected<B: Books, C: Clock, W: Write>(
     progress: &Progress,
     fault: RoundFault,
@@ -152,9 +153,10 @@ fn end_unconnected<B: Books, C: Clock, W: Write>(
 /// Accepted events are printed as a script prints them: their notifications, and `ok` or the
 /// started polls. Refusals are not printed.
 ///
-/// If `device` is `None`, the engine knows no device with this name. After a fault the round feeds
-/// the event `Gone` with the cause `Failed`. The round also prints this last event, unless printing
-/// failed. If the engine refused the event `Connected`, nothing else is fed.
+/// If `device` is `None`, the engine treats it as an unknown device. After a fault the round feeds
+/// the event `Gone` with the cause `Failed`. The round also prints this last event, unless an
+/// earlier write of the output failed. If the engine refused the event `Connected`, nothing else is
+/// fed.
 ///
 /// If the clock was set back, or is past the largest supported timestamp, the last event has the
 /// timestamp of the latest event. At the end none of the device's polls is pending, unless the

@@ -30,8 +30,8 @@ fn gone_at(latest: u64, moment: u64) -> u64
     }
 }
 
-// Returns the fault to report for a polling round. If printing the last event failed, this is
-// `Output`. Otherwise it is the cause that ended the round early.
+// Returns the fault to report for a polling round: `Output` if printing the last event failed,
+// otherwise the cause that ended the round early.
 fn fault_after(cause: RoundFault, fault: RoundFault) -> RoundFault
     ensures { result ≡ stepping.fault_after cause fault }
 {

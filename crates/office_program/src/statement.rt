@@ -1,4 +1,4 @@
-//! Prints the statements of the meters at an accounting register, from an office (the event engine)
+//! Prints the statements of the meters of an accounting register, from an office (the event engine)
 //! that is opened over a store. A statement is a report on one meter, to check a bill.
 ghost use Rattle.office_program.specs.Texts.Passing.{Lasts};
 ghost use Rattle.office_program.specs.Statement.{StatementOver};
@@ -13,12 +13,12 @@ use office_events::Name;
 use std::alloc::Global;
 use std::io::Write;
 
-/// Opens an event engine for queries, as `report_books` does, and prints the statements of a
-/// register's meters on a range of days.
+/// Opens an event engine for queries, as `report_books` does, and prints the statements of an
+/// accounting register's meters on a range of days. The days are civil days in the store's time
+/// zone.
 ///
-/// The days are civil days in the store's time zone. If opening the engine or a query is refused,
-/// the command prints only `refused N`. If `register` is no valid name, the engine treats it as an
-/// unknown register. Returns the store.
+/// If opening the engine or a query is refused, the command prints only `refused N`. If `register`
+/// is no valid name, the engine treats it as an unknown register. Returns the store.
 pub fn statement_books<B: Books, C: Clock, W: Write>(
     alloc: Global,
     books: B,

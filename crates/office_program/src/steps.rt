@@ -21,7 +21,7 @@ use poll_core::Closing;
 use std::alloc::Global;
 use std::io::Write;
 
-// Writes the Modbus frames that the event engine sends for an event to the link of the device.
+// Writes to the device's link the Modbus frames that the event engine made for an event.
 fn send<L: Link>(link: &mut L, frames: &[u8]) -> Result<(), RoundFault>
     ensures given { AreGiven result frames.now (L.given link.old) (L.given link.new) }
     ensures kind { OnlyLink result }
@@ -84,8 +84,8 @@ fn feed_and_send<L: Link, B: Books, C: Clock, W: Write>(
     }
 }
 
-/// Feeds the event that the polling round requests to the event engine. If the round requests no
-/// event, does nothing.
+/// Feeds the event that the polling round generates next to the event engine. Does nothing if the
+/// round generates no event.
 pub(crate) fn feed_requested<L: Link, B: Books, C: Clock, W: Write>(
     progress: &mut Progress,
     link: &mut L,
@@ -106,8 +106,8 @@ pub(crate) fn feed_requested<L: Link, B: Books, C: Clock, W: Write>(
     }
 }
 
-// Feeds the event that the polling round requests after an event from the link, if there is a
-// request. Returns true if the round is over.
+// After an event from the link, feeds the event that the polling round generates to the event
+// engine, if there is one. Returns true if the round is over.
 fn follow<L: Link, B: Books, C: Clock, W: Write>(
     progress: &mut Progress,
     link: &mut L,
@@ -129,7 +129,7 @@ fn follow<L: Link, B: Books, C: Clock, W: Write>(
 }
 
 // Feeds an event from the link to the event engine, and then the event that the polling round
-// requests, if any. Returns true if the round is over.
+// generates, if any. Returns true if the round is over.
 fn feed_taken<L: Link, B: Books, C: Clock, W: Write>(
     event: &Event,
     progress: &mut Progress,
@@ -152,7 +152,7 @@ fn feed_taken<L: Link, B: Books, C: Clock, W: Write>(
 }
 
 /// Reads an event from the link and feeds the event to the event engine. Then feeds the event that
-/// the polling round requests, if any.
+/// the polling round generates, if any.
 ///
 /// Returns true if the polling round is over.
 pub(crate) fn turn<L: Link, B: Books, C: Clock, W: Write>(

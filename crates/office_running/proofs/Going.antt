@@ -87,8 +87,8 @@ after_events : (names : List (List ℕ)) (past : History) (fed : List Answered) 
 after_events names past [] = refl
 after_events names past (one ∷ earlier) = ap (λ h. with_answer h one.at one.event one.result) (after_events names past earlier)
 
--- True if the event that a device's polling round requests is an event of a polling round. Also
--- true if there is no event.
+-- True if the event that a device's polling round generates next, if any, is an event of a polling
+-- round (`IsOfRound`).
 abbrev WishesOfRound : Option Event → Type 0
 WishesOfRound None = Unit {0}
 WishesOfRound (Some e) = IsOfRound e
@@ -230,8 +230,8 @@ no_turns names ledger first begun office = record {
   zone = refl;
 }
 
--- After some complete passes of the event loop, reading the clock once more, with steps at the
--- latest time of the clock, adds one pass.
+-- Suppose that some passes of the event loop are complete. If the clock is then read once more, and
+-- the program makes steps at the latest time, one more pass is complete.
 one_turn : {B : Type 0} (names : List (List ℕ)) (ledger : B → Ledger) (first before latest : ℕ) (begun between now : Option (List ℕ)) (a b c : Office B)
     → TakesTurns names ledger first before begun between a b → ReadsClock before latest between now → Goes names latest ledger b c
     → TakesTurns names ledger first latest begun now a c
@@ -269,8 +269,8 @@ first_begins names ledger first latest begun now office reads = record {
   reads = reads;
 }
 
--- If the clock was read for a pass of the event loop, and the program made steps at the clock's
--- latest time, the pass is complete.
+-- If the clock was read for a pass of the event loop, and the program made steps at the latest
+-- time, the pass is complete.
 pub turn_ends : {B : Type 0} (names : List (List ℕ)) (ledger : B → Ledger) (first latest at : ℕ) (begun now : Option (List ℕ)) (a b c : Office B)
     → at ≡ latest → Begins names ledger first latest begun now a b → Goes names at ledger b c → TakesTurns names ledger first latest begun now a c
 turn_ends names ledger first latest at begun now a b c same begins goes =
@@ -287,8 +287,8 @@ next_begins names ledger first latest later at begun now after a b c d same begi
   reads = reads;
 }
 
--- If the program only answered queries before some passes of the event loop, then these passes are
--- all that it processed.
+-- Suppose that the program only answers a query, and then processes some passes of the event loop.
+-- Its state then follows from these passes alone, because the query records nothing.
 pub turns_after_asking : {B T : Type 0} (names : List (List ℕ)) (ledger : B → Ledger) (first : ℕ) (begun now : Option (List ℕ)) (a b c : Office B)
     (answer : Result T Refusal) → OnlyAsks ledger a b answer → TurnsFrom names ledger first begun now b c → TurnsFrom names ledger first begun now a c
 turns_after_asking names ledger first begun now a b c answer asks goes = record {
@@ -316,7 +316,7 @@ reads_stand old new past keeps stands = record {
 }
 
 -- If a run opened the store and processed passes of the event loop, the store has the records of
--- the opening and of the passes.
+-- the opening and the passes.
 pub ran_opened : {B : Type 0} (names : List (List ℕ)) (ledger : B → Ledger) (past : History) (begun opened now : Option (List ℕ)) (office new : Office B) (books : B)
     → books ≡ books_in new → ((ledger (books_in office)).is_clean → Opens ledger past begun opened office) → RunsOn names ledger opened now office new
     → (ledger books).is_clean → BooksRun names begun now (ledger books) past

@@ -28,8 +28,8 @@ pub data Step (names : List (List ℕ)) : Type 0 where
   Fed : Answered → Step names
   Asks : Connection names → Step names
 
--- True if the command starts the Modbus reads of a device. It is the only command that a polling
--- round (the polls of one device, one for each read) requests.
+-- True if the command starts the Modbus reads of a device. A polling round (the polls of one
+-- device, one for each read) generates no other command.
 abbrev pub StartsRound : Command → Type 0
 StartsRound (command.StartRound start) = Unit {0}
 StartsRound _ = ⊥
@@ -44,8 +44,8 @@ IsOfRound (event.Gone device closing) = Unit {0}
 IsOfRound (event.Command given) = StartsRound given
 IsOfRound (event.Asked asked) = ⊥
 
--- True if the step of a run happened at the timestamp `at`. A step that is an event must belong to
--- a device's polling round.
+-- True if the step of a run happened at the timestamp `at`. If the step processed an event, the
+-- event also belongs to a device's polling round.
 abbrev pub IsStepAt : {names : List (List ℕ)} → (at : ℕ) → Step names → Type 0
 IsStepAt at (Fed fed) = (fed.at ≡ at) × IsOfRound fed.event
 IsStepAt at (Asks one) = one.at ≡ at
@@ -55,7 +55,8 @@ abbrev pub AreAt : {names : List (List ℕ)} → (at : ℕ) → List (Step names
 AreAt at [] = Unit {0}
 AreAt at (one ∷ earlier) = IsStepAt at one × AreAt at earlier
 
--- The history of the program's accepted events after one more step of a run.
+-- The history of the program's accepted events after one more step of a run (one execution of
+-- `sunreg run`).
 abbrev pub with_step : {names : List (List ℕ)} → History → Step names → History
 with_step past (Fed fed) = with_answer past fed.at fed.event fed.result
 with_step past (Asks one) = with_asked past one.at one.asked
@@ -78,8 +79,8 @@ pub record StandsAfterSteps {B : Type 0} (names : List (List ℕ)) (at : ℕ) (l
 -- The contract of each function of the event loop. Whatever bytes arrive, the program processes
 -- only events of polling rounds and requests of clients, all at the timestamp `at`.
 --
--- If a store is clean after the call (the program used no wrong result of the store), then the
--- store was clean before the call. The store's time zone is unchanged.
+-- Clean means that the program used no wrong result of a store. If the store is clean after the
+-- function returns, then the store was clean before. The store's time zone is unchanged.
 pub record Goes {B : Type 0} (names : List (List ℕ)) (at : ℕ) (ledger : B → Ledger)
     (old new : Office B) : Type 0 where
   pub stands : After ledger old new (λ past. StandsAfterSteps names at ledger past new)
@@ -101,8 +102,8 @@ pub record Turn (names : List (List ℕ)) : Type 0 where
   pub reported : ℕ
   pub steps : List (Step names)
 
--- The latest time that the clock returned in a list of passes of the event loop. The time is at
--- least `first`, the timestamp before these passes.
+-- The latest time that the clock returned in a list of turns (passes) of the event loop. The time
+-- is at least `first`, the timestamp before these passes.
 abbrev pub latest_of : {names : List (List ℕ)} → (first : ℕ) → List (Turn names) → ℕ
 latest_of first [] = first
 latest_of first (turn ∷ earlier) = max (latest_of first earlier) turn.reported
@@ -184,8 +185,8 @@ abbrev pub BooksRun : (names : List (List ℕ)) → (begun now : Option (List �
 BooksRun names begun now ledger past =
     BooksStand ledger past ⊎ StandAfterOpening names begun now ledger past
 
--- True if `left` has the timestamp of the store's latest record, and the number of polls in the
--- store whose end is not recorded.
+-- True if `left` has the timestamp of the store's latest record, and the number of stored polls
+-- without a recorded end.
 pub record IsLeft (past : History) (left : Left) : Type 0 where
   pub latest : left.latest ≡ latest_in (facts_of past)
   pub waiting : left.waiting ≡ length (pending_in (facts_of past))

@@ -35,7 +35,8 @@ fn count_descriptors<R: Net>(rt: &R, alloc: Global, most: usize) -> Result<usize
 /// Returns the number of clients that a run with `devices` devices accepts at once.
 ///
 /// If that number is less than the maximum, the function also returns the recommended limit on open
-/// file descriptors. Call this function after everything but devices and clients is open.
+/// file descriptors. Call this function when everything is open except the connections of devices
+/// and clients.
 pub(crate) fn find_clients<R: Net>(
     rt: &R,
     alloc: Global,

@@ -1,6 +1,11 @@
 //! The devices of a run of `sunreg run`, with their connections and polling rounds. A polling round
 //! makes one poll for each Modbus read of a device.
-ghost use Rattle.std.specs.Prelude.{ℕ, List};
+ghost use Rattle.std.specs.Prelude.{ℕ, List, Result};
+ghost use Rattle.office_events.specs.declared.answers.Answer.{Answer};
+ghost use Rattle.office_events.specs.declared.events.Event.TheVariants as event;
+ghost use Rattle.office_events.specs.declared.refusals.Refusal.{Refusal};
+ghost use Rattle.office_books.specs.Refusals.{with_answer};
+ghost use Rattle.office_core.specs.Standing.{After, Stands};
 ghost use Rattle.office_running.specs.Runs.{Goes};
 
 use crate::devices::{Seen, Slot};
@@ -21,8 +26,8 @@ use std::net::Net;
 /// loop. The responses to all Modbus requests in progress always fit in fewer chunks.
 const MOST_PIECES: u32 = 64;
 
-// After bytes from a device, passes the program's answer to the device's polling round, and
-// notifications of ended polls and readings to all rounds.
+// After an event with bytes from a device was processed, passes the answer to the device's polling
+// round. Passes notifications of ended polls and readings to all rounds.
 //
 // The device's round gets the answer only while it waits for responses. A round that is about to
 // start reads would mistake this answer for the answer to that start.
@@ -170,7 +175,7 @@ impl Polling {
         }
     }
 
-    /// Processes a device event, and then each event that the polling rounds request after it.
+    /// Processes a device event, and then each follow-up event that the polling rounds generate.
     /// Sends the resulting Modbus requests to the devices.
     pub(crate) fn feed<B: Books>(
         &mut self,
@@ -288,8 +293,8 @@ impl Polling {
 
     // Processes the bytes of one device, at the end of a pass of the event loop.
     //
-    // The events that the device's polling round then requests wait for the next pass. A read that
-    // started with the timestamp of this pass would have a shorter timeout.
+    // The follow-up events that the device's polling round generates wait for the next pass. A read
+    // that started with the timestamp of this pass would have a shorter timeout.
     fn hear<B: Books>(
         &mut self,
         place: usize,
@@ -299,8 +304,11 @@ impl Polling {
         voice: &mut Voice,
         now: Now,
     )
-        ensures { (names : List (List ℕ))
+        ensures goes { (names : List (List ℕ))
             → Goes names now.moment B.ledger office.old office.new }
+        ensures fed { After B.ledger office.old office.new (λ past. (answer : Result Answer Refusal)
+            × Stands B.ledger (with_answer past now.moment (event.Bytes device bytes.items) answer)
+            office.new) }
     {
         let event = Event::Bytes(device, Piece::new(bytes));
         let answer = office.feed(now.moment, &event);

@@ -2,6 +2,7 @@
 //! each device, serves the clients, prints output, and waits for sockets.
 ghost use Rattle.std.specs.Prelude.{◌≡◌, ℕ, List};
 ghost use Rattle.office_http.specs.Messages.Hosts.{texts};
+ghost use Rattle.office_running.specs.Ending.{has_come, moment_of, time_after};
 ghost use Rattle.office_running.specs.Runs.{Goes, ReadsClock, RunsOn, TakesTurns, TurnsFrom};
 
 use crate::clocks::{read_clock, read_time, time_from, to_next_second};
@@ -48,7 +49,9 @@ struct End {
 }
 
 impl End {
-    fn has_come(self, now: Now) -> bool {
+    fn has_come(self, now: Now) -> bool
+        ensures { result ≡ has_come self now }
+    {
         self.time <= now.time || self.moment <= now.moment
     }
 }
@@ -212,8 +215,8 @@ impl Running {
         }
     }
 
-    // Drops client connections that are complete or overdue, and begins to connect to devices whose
-    // polling round is due.
+    // Drops client connections whose response is complete or whose deadline has passed, and begins
+    // to connect to devices whose polling round is due.
     fn begin_second<R: Net>(&mut self, rt: &R, now: Now) {
         self.port.sweep(now.time);
         self.polling.begin_all(rt, self.poll.registry(), FIRST_DEVICE, &mut self.voice, now);
@@ -234,7 +237,7 @@ impl Running {
         }
     }
 
-    // Accepts new client connections, and serves each connection that is ready.
+    // Accepts new HTTP connections, and serves each connection that is ready.
     fn attend_clients<'x, R: std::rt::Clock + Files, B: Books>(
         &mut self,
         rt: &R,
@@ -261,8 +264,8 @@ impl Running {
         }
     }
 
-    // Discards cached HTTP responses after a device event, because the event may have changed the
-    // data in them.
+    // If a device event was processed, discards the cached HTTP response, because the event may
+    // have changed the data in it.
     fn note_fed(&mut self, has_fed: bool) {
         if has_fed {
             self.port.forget_replies();
@@ -355,7 +358,8 @@ impl Running {
         now: Now,
         end: End,
     ) -> bool
-        ensures { Goes (texts names.now) now.moment B.ledger office.old office.new }
+        ensures goes { Goes (texts names.now) now.moment B.ledger office.old office.new }
+        ensures over { result ≡ has_come end now }
     {
         self.attend_all(rt, names, earlier, events, office, now);
         if !end.has_come(now) {
@@ -540,8 +544,11 @@ impl Running {
     }
 }
 
-// Returns the end of a run that begins when its own clock shows `now`.
-fn end_of(settings: &Settings<'_>, now: u64) -> End {
+// Returns when a run ends, if the run begins when its own clock shows `now`.
+fn end_of(settings: &Settings<'_>, now: u64) -> End
+    ensures time { result.time ≡ time_after settings.now.lasts now }
+    ensures moment { result.moment ≡ moment_of settings.now.ends }
+{
     End {
         time: match settings.lasts {
             Some(seconds) => now.saturating_add(seconds),
@@ -552,7 +559,7 @@ fn end_of(settings: &Settings<'_>, now: u64) -> End {
 }
 
 // Opens the HTTP port of a run. Prints the timestamp of the store's latest record, the number of
-// polls from before the run whose end is not recorded, and the port.
+// earlier polls whose end is not recorded, and the port.
 fn open<R: Net + Files, W: Write>(
     rt: &R,
     alloc: Global,

@@ -107,7 +107,8 @@ impl FileWatch {
         Ok(FileWatch { files })
     }
 
-    /// Checks each file, and returns the first lost file, if any.
+    /// Checks each open file of the store, and returns the first lost file (removed, replaced or
+    /// cut short), if any.
     pub(crate) fn look<R: Files>(&mut self, rt: &R) -> Option<LostFile> {
         for index in 0..self.files.len() {
             if index < self.files.len() {
@@ -127,7 +128,7 @@ impl FileWatch {
         }
     }
 
-    /// Returns whether the database file or its log is missing at its path.
+    /// Returns whether an open file of the store was removed, replaced or cut short.
     pub(crate) fn is_lost<R: Files>(&self, rt: &R) -> bool {
         self.files.iter().any(|file| file.loss(rt).is_some())
     }

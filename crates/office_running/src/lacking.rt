@@ -10,8 +10,8 @@ use office_books::Books;
 use run_http::status::{DeviceLack, add_lacks};
 use std::alloc::Global;
 
-// Appends what a device lacks to `lacks`. If the store or memory fails, the earlier items of
-// `lacks` remain.
+// Appends to `lacks` each thing that a device lacks for polling or recording, such as a point list.
+// If the store or memory fails, the items that `lacks` already has stay.
 fn add_of_site<B: Books>(lacks: &mut Vec<DeviceLack>, books: &mut B, site: &Site)
     ensures { LooksUp (B.ledger books.old) (B.ledger books.new) }
 {

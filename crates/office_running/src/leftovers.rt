@@ -1,6 +1,6 @@
 //! Reads what earlier runs left in a store: the time of the latest record, and polls without an
-//! outcome. A run reads them first, because the program records each such poll as lost when it
-//! starts.
+//! outcome. A run reads both before it starts, because the program then records each such poll as
+//! lost.
 ghost use Rattle.std.specs.Prelude.{◌≡◌, false, nat_lt, IfSome};
 ghost use Rattle.office_core.specs.Leaving.{BooksStand};
 ghost use Rattle.office_books.specs.History.{History};

@@ -1,4 +1,5 @@
-//! Polls devices on a schedule and serves HTTP, and records what happens in a store.
+//! Runs `sunreg run` on a store: polls devices on a schedule, serves HTTP, and records what
+//! happens.
 ghost use Rattle.office_http.specs.Messages.Hosts.{texts};
 ghost use Rattle.office_core.specs.Leaving.{BooksStand};
 ghost use Rattle.office_books.specs.History.{History};

@@ -102,7 +102,7 @@ impl Outlet {
         }
     }
 
-    // Returns the number of queued bytes that the next write may have without blocking.
+    // Returns how many queued bytes the next write can take without blocking.
     fn room(&mut self) -> usize {
         let waiting = self.queue.waiting().len();
         if waiting == 0 {

@@ -48,7 +48,7 @@ pub struct Settings<'n> {
     /// Whether the run also prints a line for each poll, each accepted reading, and each connection
     /// to a device.
     pub verbose: bool,
-    /// The file descriptors of standard output and standard error, so that a write never waits for
-    /// a reader; `None` if a write never waits anyway.
+    /// The file descriptors of standard output and standard error, with which the run avoids writes
+    /// that wait for a reader. `None` if no write to these outputs can wait.
     pub descriptors: Option<Descriptors>,
 }

@@ -169,8 +169,8 @@ impl Voice {
         mem::replace(&mut self.said, Vec::new(self.alloc))
     }
 
-    /// Prints the timestamp of the latest record before the run, the number of polls that the
-    /// program recorded as lost at its start, and the HTTP port.
+    /// Prints the timestamp of the latest record before the run, the number of polls recorded as
+    /// lost at the start, and the HTTP port.
     pub(crate) fn report_opened(&mut self, left: Option<Left>, port: u16) {
         if let Some(left) = left {
             let _done = write_number(&mut self.lines, b"books to ", left.latest);

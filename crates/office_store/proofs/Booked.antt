@@ -117,8 +117,8 @@ any_there meter start rows shares are =
     ∙ any_map (is_at meter start) (interval_of meter) shares
     ∙ any_agree (λ share. is_at meter start (interval_of meter share)) (has_start start) (at_start meter start) shares
 
--- If a meter's rows of `intervals` agree with the meter's entries, they still agree after
--- corresponding edits of the rows and of the entries.
+-- If a meter's rows of `intervals` agree with the energy that is computed from the meter's entries,
+-- they still agree after corresponding changes of both.
 edited : (meter : List ℕ) (f : Interval → Interval) (h : Share → Share) (rows : List Interval) (shares : List Share)
     → ((i : Interval) → (f i).meter ≡ i.meter) → ((share : Share) → f (interval_of meter share) ≡ interval_of meter (h share))
     → AreRowsOf meter rows shares → AreRowsOf meter (map f rows) (map h shares)
@@ -179,7 +179,8 @@ booked meter [] rows shares apart are = are
 booked meter (share ∷ adds) rows shares apart are =
     booked meter adds (with_share meter share rows) (journal.with_share share shares) (apart_with share shares apart) (booked_one meter share rows shares apart are)
 
--- Adding energy to one meter leaves the rows of `intervals` for all other meters unchanged.
+-- Lemmas that adding energy to one meter leaves the rows of `intervals` for all other meters
+-- unchanged.
 
 not_other : (a b : Bool) → (a ≡ true → b ≡ true → ⊥) → a ≡ true → b ≡ false
 not_other a true h e = absurd (h e refl)

@@ -17,8 +17,9 @@ use Rattle.office_store.specs.Laws.Laws.{DatabasesTellTheirFacts}
 use Rattle.office_store.specs.Answers.{answer_of}
 use Rattle.office_store.specs.Stored.{IsStored, ledger_of}
 
--- If a connection's database encodes two lists of records, it encodes the first list also with the
--- time zone of the second list.
+-- If a connection's database encodes one list of records with one time zone and another list with
+-- another, the two time zones are equal. It therefore also encodes the first list with the second
+-- zone.
 pub known_in : {S : Type 0} → DatabasesTellTheirFacts → (g : Ghosts S) (zone other : List ℕ) (h : Held S) (facts others : List Fact)
     → HoldsFacts g zone h facts → HoldsFacts g other h others → HoldsFacts g other h facts
 unfolding HoldsFacts
@@ -63,8 +64,8 @@ all_booked tell g old new n zone facts (Err e) books = record {
   goes = record { clean = (books []).clean; faults = refl; zone = refl };
 }
 
--- If a transaction wrote records to the tables, the store then has the old records and the written
--- records.
+-- If a transaction wrote records to the tables, the store has the old records and the written
+-- records after the transaction.
 pub booked : {S : Type 0} → DatabasesTellTheirFacts → (g : Ghosts S) (old new : Held S) (n m : Failures) (zone : Zone) (facts given : List Fact) → given ≡ facts
     → (done : Result (Unit {0}) RowFault) (answer : Result (Unit {0}) BooksFault) → answer ≡ answer_of done → m ≡ faults_after answer n
     → ((text : List ℕ) → BooksFacts g text given old new done)

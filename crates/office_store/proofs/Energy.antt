@@ -80,8 +80,8 @@ module _ (kept : MetersAreKept) (ranges : InstallationsAreInRange) where
       recursion_from_All _ _ (All-permutation (λ (i : Interval). i.share.mwh ≤ greatest_total) _ _ (IsPermutation-sym _ _ are)
       (All-from_recursion _ _ (all_mapped meter (rows_of_meter facts meter) (installed_small facts meter (opening_of facts meter) lawful refl))))
 
-  -- If the energy of each meter's rows of `intervals` is at most the greatest total of a meter,
-  -- this bound holds for all rows.
+  -- If, for each meter, every row of `intervals` has at most the greatest total energy of a meter,
+  -- this bound holds for every row.
   all_of_each : (rows : List Interval) → ((meter : List ℕ) → AllByRecursion (λ (i : Interval). i.share.mwh ≤ greatest_total) (filter (is_of meter) rows)) → AreSmall rows
   all_of_each [] each = tt
   all_of_each (i ∷ rows) each =

@@ -1,5 +1,5 @@
--- Proofs about the tables `entries`, `intervals` and `installations` after a meter entry was
--- recorded, except the meter's first entry.
+-- Proofs about the tables `entries`, `intervals` and `installations` after an entry of a meter was
+-- recorded that is not the meter's first entry.
 use Rattle.std.proofs.Common.{◌≡◌, ◌≢◌, ℕ, ◌+◌, Bool, true, false, cond, inl, inr, List, [], ◌∷◌, map, filter, Option, Some, None, bytes_eq, refl, sym, ap, subst, ◌∙◌, IsPermutation, arith}
 use Rattle.std.specs.List.{AllByRecursion}
 use Rattle.std.proofs.lemmas.Bool.{cases_Bool, cond-true, cond-false}
@@ -89,7 +89,8 @@ module _ (f : Fact) (facts : List Fact) (meter : List ℕ) (same_found : (m : Li
             (subst (λ l. IsPermutation l (new ∷ entries_of facts meter)) (sym (cond-true _ _ _ (ap (λ t. bytes_eq t meter) of ∙ same_itself meter)))
             (IsPermutation-cons new _ _ (a.each meter))))
 
-    -- After a meter entry is stored, the rows of `intervals` also have the energy up to this entry.
+    -- Lemmas that, after a meter entry is stored, the rows of `intervals` also have the energy up
+    -- to this entry.
     module _ (kept : MetersAreKept) (ranges : InstallationsAreInRange) where
       pub energy_added : (shares : List Share) (content after : Content) → AreLawful facts → AreLawful (f ∷ facts)
           → rows_of_opening (f ∷ facts) o ≡ with_each shares (rows_of_opening facts o)
@@ -122,7 +123,8 @@ module _ (f : Fact) (facts : List Fact) (meter : List ℕ) (same_found : (m : Li
                 (subst (λ l. IsPermutation l (map (interval_of m) (rows_of_meter facts m))) (sym (others_booked meter m shares a.rows off)) (a.each m))
           ]
 
-    -- After a meter entry is stored, only this meter's row of `installations` is changed.
+    -- Lemmas that, after a meter entry is stored, only this meter's row of `installations` is
+    -- changed.
     module _ (change : Installed → Installed) (changed : (place : ℕ) → installed_row (f ∷ facts) place o ≡ change (installed_row facts place o)) where
       one_changed : (x : Opening) → opening_of facts x.meter ≡ Some x → (place : ℕ)
           → installed_row (f ∷ facts) place x ≡ cond (is_meter meter (installed_row facts place x)) (change (installed_row facts place x)) (installed_row facts place x)

@@ -36,7 +36,7 @@ use Rattle.office_store.proofs.Placed.{greatest}
 use Rattle.office_store.proofs.Recorded.{stay, points_stay, entries_stay, intervals_stay}
 use Rattle.office_store.proofs.Entered.{entry_added, energy_added, installations_changed}
 
--- The index of a meter's next entry is one more than the number of its entries.
+-- Lemmas that the index of a meter's next entry is one more than the number of its entries.
 
 few_entered : (o : Opening) (rows : List journal.EntryRow) (n : ℕ) → AreNumbered rows → length rows + 1 ≤ n
     → AllByRecursion (λ e. entry_place e ≤ n) (entered_rows o rows)
@@ -45,7 +45,7 @@ few_entered o (row ∷ rows) n numbered h =
     let place = numbered.0 in (omega (arith, h, place), few_entered o rows n numbered.1 (omega (arith, h)))
 
 -- The index after the greatest one in a meter's rows of `entries` is the number of the meter's
--- entries plus 1. The first entry, its opening, is not in `rows`.
+-- entries plus 1. These entries are the opening (the first entry) and `rows`.
 pub entries_count : (o : Opening) (rows : List journal.EntryRow) (passes : Entered → Bool) (entered_all : List Entered) (last : Option ℕ) → AreNumbered rows
     → IsPermutation (filter passes entered_all) (entered_rows o rows)
     → IsLast passes (λ e n. n ≡ entry_place e) entry_place entered_all last → next_place last ≡ length rows + 2

@@ -28,8 +28,8 @@ of_steps old new r Makes one = record {
   survives = one.survives;
 }
 
--- If a query inside a transaction is Ok, the tables stay unchanged, and the answer follows from one
--- table.
+-- If a query inside a transaction returns `Ok`, the tables stay unchanged, and the answer follows
+-- from the rows of one table.
 pub of_answer : {S A D E X : Type 0} (g : Ghosts S) (old new : Held S) (tree : ℕ) (columns : X → Row) (Answers : List X → A → Type 0) (a : A)
     → AsksInside {X = A} {E = D} g old new (Ok a) → ReportsAnswer g old new tree columns (Ok a) Answers
     → Goes {X = A} {E = E} (state g old) (state g new) (Ok a) (Reported tree columns Answers a)
@@ -53,8 +53,8 @@ more_ok : {X E : Type 0} {P Q : Type 0} (r : Result X E) → (P → Q) → OnOk 
 more_ok (Ok x) f h = f h
 more_ok (Err e) f h = tt
 
--- If a call is Ok, this call and the next call together satisfy `Goes`, the contract of one call
--- inside a transaction.
+-- If a call returns `Ok` and another call follows, both together satisfy `Goes`, the contract of
+-- one call inside a transaction.
 pub goes_then : {X Y D E : Type 0} (a b c : State) (x : X) (r : Result Y E) (P Q R : Content → Content → Type 0) → Goes {X = X} {E = D} a b (Ok x) P → Goes b c r Q
     → ((before mid after : Content) → P before mid → Q mid after → R before after) → Goes a c r R
 goes_then a b c x r P Q R one two goes = record {
@@ -70,7 +70,7 @@ goes_then a b c x r P Q R one two goes = record {
   survives = survives_then a b c (λ _. ⊥) (λ _. ⊥) (λ _. ⊥) (λ _ db none. none) (λ _ db none. none) one.survives two.survives;
 }
 
--- If a call is Ok and the next call fails, both calls together satisfy `Goes`, the contract of one
+-- If a call returns `Ok` and the next call fails, both together satisfy `Goes`, the contract of one
 -- (failed) call inside a transaction.
 pub then_failed : {X Y Z D E F : Type 0} (a b c : State) (x : X) (e : E) (f : F) (P Q R : Content → Content → Type 0) → Goes {X = X} {E = D} a b (Ok x) P → Goes {X = Y} b c (Err e) Q
     → Goes {X = Z} a c (Err f) R
@@ -83,8 +83,8 @@ then_failed a b c x e f P Q R one two = record {
   survives = survives_then a b c (λ _. ⊥) (λ _. ⊥) (λ _. ⊥) (λ _ db none. none) (λ _ db none. none) one.survives two.survives;
 }
 
--- If a call fails, it satisfies `Goes`, the contract of a call inside a transaction, with any
--- postcondition. Postconditions are only about Ok.
+-- If a failed call satisfies `Goes`, the contract of a call inside a transaction, it does so with
+-- any postcondition. The postcondition concerns only calls that return `Ok`.
 pub failed : {X Y D E : Type 0} (a b : State) (e : D) (d : E) (P Q : Content → Content → Type 0) → Goes {X = X} a b (Err e) P → Goes {X = Y} a b (Err d) Q
 failed a b e d P Q one = record { kept = one.kept; makes = λ clean inside content has. tt; survives = one.survives }
 

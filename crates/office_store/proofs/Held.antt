@@ -24,8 +24,8 @@ use Rattle.office_store.specs.Recording.{Records, IsAfter}
 use Rattle.office_store.proofs.Placed.{last_counts}
 use Rattle.office_store.proofs.Recorded.{stay, points_stay, entries_stay, intervals_stay}
 
--- If a record, such as a rejected reading, changes no meter, the rows that encode the meters stay
--- unchanged.
+-- Lemmas that, if a record (such as a rejected reading) changes no meter, the rows that encode the
+-- meters stay unchanged.
 module _ (f : Fact) (facts : List Fact) (stays : (o : Opening) → Stays f facts o) where
   entries_same : (found : Option Opening) → entries_at (f ∷ facts) found ≡ entries_at facts found
   entries_same None = refl

@@ -1,4 +1,4 @@
--- Proofs about the rows that the query for the meters at an accounting register (a named energy
+-- Proofs about the rows that the query for the meters of an accounting register (a named energy
 -- counter) returns.
 use Rattle.std.proofs.Common.{◌≡◌, ℕ, bytes_eq, List, [], ◌∷◌, codes, false, refl}
 use Rattle.sqlite.specs.declared.types.Value.TheVariants.{Text}

@@ -78,7 +78,7 @@ module _ {S X E : Type 0} (theirs : OpenedFilesKeepTheirs) (g : Ghosts S) (zone 
         ];
   }
 
--- If a connection was opened as a store, it had no open transaction.
+-- If opening a connection as a store succeeds, the connection had no open transaction before.
 pub was_idle : {X E C : Type 0} (b : Bool) (x : X) (e : E) → (IsTrue b → (Ok x ≡ Err e) × C) → b ≡ false
 was_idle true x e busy =
     let no : Ok x ≡ Err e = (busy refl).0 in

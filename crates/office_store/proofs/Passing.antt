@@ -38,8 +38,8 @@ any_step false p q x xs e implies more =
       | inr is ↦ more ∙ sym (ap (λ b. b || list_any q xs) is)
     ]
 
--- If a test implies a weaker test, filtering a list by the weaker test keeps the answer to whether
--- some row passes the test.
+-- If a test implies a weaker test, filtering a list by the weaker test does not change whether some
+-- row passes the first test.
 pub any_filter : {X : Type 0} (p q : X → Bool) → ((x : X) → q x ≡ true → p x ≡ true) → (xs : List X) → list_any q (filter p xs) ≡ list_any q xs
 any_filter p q implies [] = refl
 any_filter p q implies (x ∷ xs) = any_step (p x) p q x xs refl (implies x) (any_filter p q implies xs)

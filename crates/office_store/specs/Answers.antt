@@ -8,8 +8,8 @@ use Rattle.office_books.specs.declared.faults.StoreFault.TheVariants.{Refused, D
 use Rattle.office_books.specs.declared.faults.BooksFault.{BooksFault}
 use Rattle.office_books.specs.declared.faults.BooksFault.TheVariants.{Store, Memory}
 
--- The error of the store's interface for an error of the tables. A row out of its ranges is damage,
--- out of memory is `Memory`, and any other error is a refusal.
+-- The error of the store's interface for an error of the tables. A row with a value out of its
+-- range becomes `Damaged`, out of memory becomes `Memory`, and any other error becomes `Refused`.
 abbrev pub fault_of : RowFault → BooksFault
 fault_of row.Damaged = Store Damaged
 fault_of (row.Sql (SqliteFailure OutOfMemory)) = Memory

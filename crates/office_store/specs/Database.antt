@@ -10,8 +10,8 @@ use Rattle.office_store.specs.Holding.{HoldsFacts, LeavesFacts, IsLeft}
 use Rattle.office_store.specs.Laws.Files.{HasFactsIn}
 
 module _ {S : Type 0} (g : Ghosts S) (zone : List ℕ) where
-  -- True if the database file of a connection encodes the records, in any version of the file. The
-  -- definition assumes that reads of the file return the written bytes.
+  -- States that, if reads of the database file return the written bytes, the file (of any version)
+  -- encodes the records.
   abbrev pub HasFile : Held S → List Fact → Type 0
   HasFile h facts = HasCleanDisk (state g h)
       → (layout : Layout) × HasFactsIn layout zone facts (state g h).committed
@@ -22,8 +22,9 @@ module _ {S : Type 0} (g : Ghosts S) (zone : List ℕ) where
     pub holds : HoldsFacts g zone h facts
     pub leaves : LeavesFacts g zone h (facts ∷ [])
 
-  -- True if a call keeps the last commit. A crash leaves tables that a crash before the call could
-  -- leave, or tables that encode the records.
+  -- States that, if reads of the database file return the written bytes, a call keeps the last
+  -- commit. A crash after the call leaves tables that a crash before the call could leave, or
+  -- tables that encode the records.
   pub record KeepsFile (old new : Held S) (facts : List Fact) : Type 0 where
     pub kept : HasCleanDisk (state g new) → KeepsCommit (state g old) (state g new)
     pub leaves : HasCleanDisk (state g new) → (trees : Trees) → (state g new).may_leave trees

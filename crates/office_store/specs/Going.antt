@@ -6,13 +6,14 @@ use Rattle.sqlite.specs.Order.{Row}
 use Rattle.sqlite.specs.State.{State, HasCleanDisk, KeepsCommit, Survives}
 use Rattle.store_tables.specs.Content.{Content, AreTables, HasRows}
 
--- True if a database has the store's tables, and a call has the effect `Makes`: a relation between
--- the old content of the tables and their content.
+-- True if a database has the store's tables, and their content results from the old content by the
+-- effect `Makes` of a call.
 abbrev pub HasMade : (Content → Content → Type 0) → Content → Database → Type 0
 HasMade Makes content db = (after : Content) × Makes content after × AreTables db after
 
--- The contract of a call inside a transaction. At Ok, the relation `Makes` holds between the old
--- and the new content of the tables. The call commits nothing.
+-- The contract of a call inside a transaction, if reads of the database file return the written
+-- bytes. On `Ok`, the relation `Makes` holds between the old and the new content of the tables. The
+-- call commits nothing.
 pub record Goes {X E : Type 0} (old new : State) (result : Result X E)
     (Makes : Content → Content → Type 0) : Type 0 where
   pub kept : HasCleanDisk new → IsTrue old.in_transaction → (content : Content)
@@ -22,15 +23,16 @@ pub record Goes {X E : Type 0} (old new : State) (result : Result X E)
       → OnOk result (IsTrue new.in_transaction × HasMade Makes content new.now)
   pub survives : Survives old new (λ _. ⊥)
 
--- True if B-trees store a database that a transaction may leave: the relation `Makes` holds between
--- the old content of the tables and their content.
+-- True if B-trees store a database that a transaction may leave: its content results from the old
+-- content of the tables by the effect `Makes`.
 pub record AreMade (old : State) (Makes : Content → Content → Type 0) (trees : Trees) : Type 0 where
   pub db : Database
   pub made : (content : Content) → AreTables old.now content → HasMade Makes content db
   pub same : trees ≡ db.trees
 
--- The contract of a complete transaction. At Ok, the transaction commits all changes, and on an
--- error none. A crash leaves either the old tables or all changes.
+-- The contract of a complete transaction, if reads of the database file return the written bytes.
+-- On `Ok`, the transaction commits all changes, and on an error none. A crash leaves either the old
+-- tables or all changes.
 pub record Commits {X E : Type 0} (old new : State) (result : Result X E)
     (Makes : Content → Content → Type 0) : Type 0 where
   pub ok : HasCleanDisk new → (content : Content) → AreTables old.now content

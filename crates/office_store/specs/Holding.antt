@@ -18,7 +18,7 @@ pub record HasFacts (zone : List ℕ) (facts : List Fact) (db : Database) : Type
   pub tables : AreTables db content
   pub are : AreOf zone facts content
 
--- True if the list of records `facts` is one of the lists in `left`.
+-- True if the list of records is one of the given lists.
 abbrev pub IsOneOf : List (List Fact) → List Fact → Type 0
 IsOneOf [] facts = ⊥
 IsOneOf (one ∷ left) facts = (facts ≡ one) ⊎ IsOneOf left facts
@@ -33,15 +33,15 @@ pub record IsLeft (zone : List ℕ) (left : List (List Fact)) (trees : Trees) : 
   pub same : trees ≡ db.trees
 
 module _ {S : Type 0} (g : Ghosts S) (zone : List ℕ) where
-  -- True if the committed tables encode a list of records. The definition assumes that the
-  -- connection is open, and that reads of the database file return the written bytes.
+  -- States that, if the connection is open and reads of its file return the written bytes, the
+  -- committed tables encode a list of records.
   unfoldable pub HoldsFacts : Held S → List Fact → Type 0
   HoldsFacts h facts =
       HasCleanDisk (state g h) → IsTrue (state g h).is_open
       → HasFacts zone facts (state g h).committed
 
-  -- True if a crash of the connection leaves tables that encode one of the lists of records in
-  -- `left`.
+  -- States that, if reads of the file return the written bytes, a crash leaves tables that encode
+  -- one of the given lists of records.
   unfoldable pub LeavesFacts : Held S → List (List Fact) → Type 0
   LeavesFacts h left = HasCleanDisk (state g h) → (trees : Trees) → (state g h).may_leave trees
       → IsLeft zone left trees
@@ -59,7 +59,7 @@ module _ {S : Type 0} (g : Ghosts S) (zone : List ℕ) where
         → StateAfterCall (state g old) (state g new)
 
   -- The contract of a transaction that appends the records `fs` to the stored records, if the rules
-  -- accept `fs`. At Ok all of `fs` are stored, and a later crash leaves them. On a fault the
+  -- accept `fs`. On `Ok` all of `fs` are stored, and a later crash leaves them. On a fault the
   -- earlier records are unchanged, but a crash may leave all of `fs`. An empty `fs` changes
   -- nothing.
   pub record BooksFacts {X E : Type 0} (fs : List Fact) (old new : Held S) (result : Result X E) :

@@ -17,7 +17,8 @@ use Rattle.store_tables.specs.Answer.{AreFound, FirstFirst}
 use Rattle.store_tables.specs.Polls.Trees.{holds}
 use Rattle.store_tables.specs.Polls.Rows.{Held, hold_columns, hold_place}
 
--- The cause of a rejected reading that a number in `holds` encodes, or None for any other number.
+-- The cause of a rejected reading that a numeric code in the table `holds` encodes, or None for any
+-- other number.
 abbrev pub cause_of : ℕ → Option Cause
 cause_of n =
     if n == 1 then Some cause.NotAccumulated else
@@ -112,8 +113,8 @@ AreSoundHolds = AllByRecursion HasSoundReading
 abbrev pub is_between : (from till : ℕ) → Held → Bool
 is_between from till h = nat_le from h.row.moment && nat_lt h.row.moment till
 
--- True if a list has the rejected readings of a meter with timestamps from `from` until before
--- `till`, in the order of their recording.
+-- True if a list has the rejected readings of a meter in the order of their recording. Only
+-- readings with timestamps of at least `from` and less than `till` are in the list.
 abbrev pub AreReadingsBetween : (meter : List ℕ) → (from till : ℕ) → List Held → List HeldReading
     → Type 0
 AreReadingsBetween meter from till rows all =

@@ -20,8 +20,8 @@ abbrev pub connection_in : {S : Type 0} {g : Ghosts S} → Result (SqlBooks S g)
 connection_in (Ok books) = books.connection
 connection_in (Err unopened) = unopened.connection
 
--- True if the database connection is returned unchanged after an error `NotOurs` (the database is
--- not a store) or `Zone` (its time zone is invalid).
+-- States that, after an error `NotOurs` (the database is not a store) or `Zone` (its time zone is
+-- invalid), the database connection is returned unchanged.
 abbrev pub HandsBackUntouched : {S : Type 0} → Held S → Unopened S → Type 0
 HandsBackUntouched connection unopened =
     (unopened.fault ≡ NotOurs) ⊎ (unopened.fault ≡ NoZone)

@@ -8,14 +8,14 @@ use Rattle.store_tables.specs.Answer.{IsLast}
 use Rattle.store_tables.specs.Content.{Content, HasRows}
 use Rattle.office_store.specs.Tables.{AreOf}
 
--- The effect of storing the record `f`: if the old tables encode records after which the rules
--- accept `f`, the new tables also encode `f`.
+-- The effect of storing one record. If the old tables encode records after which the rules accept
+-- the new record, the new tables encode the old records and the new record.
 abbrev pub Records : Fact → Content → Content → Type 0
 Records f content after = (zone : List ℕ) (facts : List Fact) → AreOf zone facts content
     → AreLawful (f ∷ facts) → AreOf zone (f ∷ facts) after
 
--- The effect of storing the records `fs`: if the old tables encode records after which the rules
--- accept `fs`, the new tables also encode `fs`.
+-- The effect of storing several records. If the old tables encode records after which the rules
+-- accept the new records, the new tables encode the old and the new records.
 abbrev pub RecordsAll : List Fact → Content → Content → Type 0
 RecordsAll fs content after =
     (zone : List ℕ) (facts : List Fact) → AreOf zone facts content → AreLawful (reverse fs ++ facts)

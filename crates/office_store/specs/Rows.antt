@@ -127,8 +127,9 @@ registered place register = record {
   };
 }
 
--- True if the row of an accounting register (a named energy counter) is in its ranges. Its index,
--- address and scale must be valid, and one read must cover its counter and its scale.
+-- States that the row of an accounting register (a named energy counter) is in the table's ranges
+-- if two conditions hold. Its index, address and scale are valid, and one Modbus read covers the
+-- counter and its scale.
 abbrev pub GivesSoundRow : (place : ℕ) → Register → RegisterRow → Type 0
 GivesSoundRow place register row =
     IsPlace place → register.address ≤ LAST_COUNTER → IsSoundScale (scale_as register.scale)

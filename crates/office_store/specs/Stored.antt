@@ -23,8 +23,8 @@ module _ {S : Type 0} (g : Ghosts S) where
     pub holds : HoldsFacts g zone h facts
     pub leaves : LeavesFacts g zone h left
 
-  -- The abstract state of the store that the trait `Books` specifies. It is clean while reads of
-  -- the database file return the written bytes, and open while the connection is open.
+  -- The abstract state of the store that the trait `Books` specifies. The store is clean while
+  -- reads of the database file return the written bytes, and open while the connection is open.
   abbrev pub ledger_of : Held S → Failures → Zone → Ledger
   ledger_of h failures zone = record {
     holds = IsStored h;

@@ -7,8 +7,8 @@ ghost use Rattle.store_tables.specs.Meters.Trees.{installations};
 
 use sqlite::{Alter, Connection, Error, Row, params};
 
-/// Queries the rows of `installations` at an accounting register (a named energy counter), ordered
-/// by their index. `read_installation` reads each row.
+/// Queries the rows of `installations` for the meters that were installed at an accounting register
+/// (a named energy counter), ordered by index. `read_installation` reads each row.
 pub fn register_meter_rows<S: Alter>(
     conn: &mut Connection<S>,
     register: &str,

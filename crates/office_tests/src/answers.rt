@@ -1,5 +1,5 @@
-//! Tests that write answers and notifications to a writer that fails. In each further attempt, a
-//! later call of the writer fails.
+//! Tests that write answers and notifications to a failing writer. In attempt N, call N to the
+//! writer fails.
 use crate::streams::Kept;
 use energy_core::Cause;
 use office_events::{Answer, Name, Note};
@@ -42,8 +42,9 @@ const WHOLE: &str = "\
     held m1 4294967295 cause 6\n\
     started 1 1 2 00ff\n";
 
-// Repeats the output, and makes write 1, 2, 3 and so on fail, until no write fails. Each write
-// accepts at most `most` bytes. Returns the number of writes in the complete output.
+// Writes the output repeatedly. In repetition N, write number N fails. The repetitions end when no
+// write fails. Each write accepts at most `most` bytes. Returns the number of writes in the
+// complete output.
 fn assert_failing_writes(
     rt: &impl Abort,
     alloc: Global,

@@ -62,8 +62,8 @@ fn device_event(rt: &impl Abort, alloc: Global, step: Step) -> DeviceEvent {
     }
 }
 
-/// Processes these events, and returns the observer and the polling rounds of both devices. Each
-/// device has a reading plan with two reads.
+/// Processes the given events, and returns the observer and the polling rounds of both devices.
+/// Each device has a reading plan with two reads.
 pub(crate) fn play<B: Books, W: Observer + Drop>(
     rt: &impl Abort,
     alloc: Global,

@@ -1,4 +1,4 @@
-//! Tests polling rounds in which a chosen call of the link, the connection to the device, fails.
+//! Tests polling rounds in which a chosen call to the link (the connection to the device) fails.
 use crate::links::replies;
 use crate::offices::opened;
 use crate::rounds::{ANSWERED, BOTH_AT_ONCE, Ends, LOST, ends, listed, round};
@@ -9,15 +9,15 @@ use office_program::RoundFault;
 use std::alloc::Global;
 use std::process::Abort;
 
-// The number of calls of the link in one polling round, if the link transfers at most 7 bytes in
+// The number of calls to the link in one polling round, if the link transfers at most 7 bytes in
 // each call. Both requests together need 4 calls, the first response needs 37, and the second
 // response needs 2.
 const CALLS: u64 = 43;
 
 const UP_TO_FIRST: u64 = 41;
 
-// Returns true if the polls have the outcomes that are expected if the call with the number
-// `number` of the link fails.
+// Returns true if the polls have the outcomes that are expected after a failure of the link at call
+// `number`.
 fn are_ends(polls: Ends, number: u64) -> bool {
     if number <= UP_TO_FIRST {
         polls == [LOST, LOST, None]
@@ -48,7 +48,8 @@ pub(crate) fn fail_call<B: Books>(rt: &impl Abort, alloc: Global, books: B, numb
     assert!(rt; are_ends(ends(&mut again), number), "call {number}");
 }
 
-/// If any call of a link fails, all polls that are then pending in the polling round are lost.
+/// If any call to the link (the connection to the device) fails, all polls that are then pending in
+/// the polling round are lost.
 #[test]
 fn a_failing_link_loses_what_waits(rt: HostRuntime) {
     for number in 1..=CALLS + 1 {

@@ -228,8 +228,8 @@ fn play_line<B: Books>(
     None
 }
 
-// Restarts an office (the core of `sunreg`) that a failure has stopped. Asserts that queries print
-// these rows, and that no poll is pending. Returns the number of failures of the store.
+// Restarts an office (the core of `sunreg`) that a failure has stopped. Asserts that queries then
+// print the rows `rows`, and that no poll is pending. Returns the number of failures of the store.
 fn open_again<B: Books>(rt: &impl Abort, alloc: Global, mut office: Office<B>, rows: &str) -> u64 {
     assert_stopped(rt, alloc, &mut office);
     let mut again = opened(rt, alloc, office.into_books(), 9000);
@@ -255,7 +255,7 @@ pub(crate) fn play<B: Books>(rt: &impl Abort, alloc: Global, books: B) -> u64 {
     last.into_books().faults()
 }
 
-/// If one call of the store fails, a command can be repeated and then succeeds. A failure during a
+/// If one call to the store fails, a command can be repeated and then succeeds. A failure during a
 /// device event stops the office (the core of `sunreg`) until a restart, and earlier records
 /// remain.
 #[test]

@@ -191,7 +191,7 @@ const STORE_REFUSED: BooksFault = BooksFault::Store(StoreFault::Refused);
 
 const STORE_DAMAGED: BooksFault = BooksFault::Store(StoreFault::Damaged);
 
-// The results of successive calls of a store. Each has the expected number of failures after it,
+// The results of successive calls to a store. Each has the expected number of failures after it,
 // and the expected last failure.
 static CALLS: [(Result<u8, BooksFault>, u64, Option<BooksFault>); 5] = [
     (Ok(7), 0, None),

@@ -23,7 +23,7 @@ fn no_more_reads_are_made_than_bytes_fit(rt: HostRuntime) {
     assert!(rt; slow.calls == 4_194_305);
 }
 
-// Printing 2,000 answers of 10 bytes each takes few calls of the writer. Each call except the last
+// Printing 2,000 answers of 10 bytes each takes few calls to the writer. Each call except the last
 // ends with a complete line.
 #[test]
 fn whole_lines_are_given_out(rt: HostRuntime) {

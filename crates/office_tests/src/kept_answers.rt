@@ -12,7 +12,7 @@ use office_events::ScaleSource;
 use std::alloc::Global;
 use std::process::Abort;
 
-// A point list (the points to poll) with one Modbus read in its plan.
+// A point list (the Modbus registers to read) whose plan has one Modbus read.
 const SHORT: &[u8] = b"name,function,area,address,type,scale\na,3,0,0,acc32,\n";
 
 const HOLDING: ReadFunction = ReadFunction::HoldingRegisters;
@@ -97,9 +97,9 @@ static STEPS: [Step; 49] = [
     Step::Held(b"old", Span::All, &[]),
 ];
 
-// The number of calls of the store that the test steps must make through the cache. Cached results
-// make no call, and most others make one. A lookup of a missing entry makes two, and a lookup with
-// `entry_near` makes three.
+// The number of calls to the store that the lookups of all test steps make through the cache. A
+// lookup of a cached result makes no call, and most other lookups make one. A lookup of a missing
+// entry makes two, and a lookup with `entry_near` makes three.
 const CALLS: u64 = 41;
 
 // Writes the accounting registers (named counters) of `inv`. The device `pv` has a register at an
@@ -134,8 +134,8 @@ static READS: [Step; 12] = [
 
 const REFUSED: BooksFault = BooksFault::Store(StoreFault::Refused);
 
-// Asserts that each test step has its expected result. If the store to which the cache belongs
-// fails, the step is repeated.
+// Asserts that each test step has its expected result. If the store below the cache fails during a
+// step, the step is repeated.
 fn assert_steps<B: Books>(rt: &impl Abort, alloc: Global, books: &mut B, steps: &[Step]) {
     for (place, step) in steps.iter().enumerate() {
         match try_step(rt, alloc, books, *step) {
@@ -168,7 +168,7 @@ pub(crate) fn play_all<B: Books>(rt: &impl Abort, alloc: Global, beneath: B) -> 
 }
 
 /// Looks up twice which accounting registers (named counters) a Modbus read covers: before and
-/// after they are cached. `place` is the index of the read in `READS`.
+/// after these registers are cached. `place` is the index of the read in `READS`.
 pub(crate) fn read_twice<B: Books>(
     rt: &impl Abort,
     alloc: Global,
@@ -181,7 +181,7 @@ pub(crate) fn read_twice<B: Books>(
     }
 }
 
-// Asserts that a test makes exactly `calls` calls of the store below the cache.
+// Asserts that a test makes exactly `calls` calls to the store below the cache.
 fn assert_calls(rt: &impl Abort, alloc: Global, trial: Trial, calls: u64) {
     for failing in 1..=calls.saturating_add(1) {
         let faults = try_failing(rt, alloc, failing, trial);
@@ -192,7 +192,7 @@ fn assert_calls(rt: &impl Abort, alloc: Global, trial: Trial, calls: u64) {
     }
 }
 
-/// If any one call of the store below the cache fails, the cache still returns correct results.
+/// If any one call to the store below the cache fails, the cache still returns correct results.
 #[test]
 fn kept_answers_outlive_failures(rt: HostRuntime) {
     assert_calls(&rt, rt.alloc(), Trial::Kept, CALLS);

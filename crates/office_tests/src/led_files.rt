@@ -1,5 +1,5 @@
-//! Tests which file `sunreg run` continues, and when it creates a new file. It can create a file
-//! for each month or year.
+//! Tests which file `sunreg run` continues, and when it creates a new file. The command can create
+//! a file for each month or year.
 use energy_report::Period;
 use interval_core::{Day, Zone};
 use run_schedule::{
@@ -8,8 +8,8 @@ use run_schedule::{
 use std::alloc::Global;
 use std::process::Abort;
 
-// The names of the files in a folder, with the period (a month or year) of the file that `sunreg
-// run` continues. The first period is for monthly files, and the second for yearly files. The
+// Test cases: the names of the files in a folder, and the period (a month or year) of the file that
+// `sunreg run` continues. The first period is for monthly files, and the second for yearly files. A
 // period is empty if no file in the folder has a period.
 static FOLDERS: [(&str, &str, &str); 8] = [
     ("office.db office.db-wal  .", "", ""),
@@ -133,8 +133,8 @@ fn a_file_has_the_round_that_is_due_at_its_end(rt: HostRuntime) {
     assert!(rt; next_try(900, 4_102_444_801) == None);
 }
 
-/// When `sunreg run` changes to another file, it never begins at a time before the latest time of
-/// the previous file, even if the clock was set back.
+/// When `sunreg run` changes to another file, the new file never begins at a time before the latest
+/// time of the previous file. This applies even if the clock was set back.
 #[test]
 fn no_run_begins_before_the_one_before_it(rt: HostRuntime) {
     let mut time = OnwardTime::new();

@@ -1,9 +1,9 @@
-//! Tests that no script can run. They cover failing connections, streams and stores, stores with
-//! caches, polling rounds, schedules, and the reports of `sunreg run`. Other tests cover inputs of
-//! megabytes, values that no script prints, and the values of arguments.
+//! Tests for cases that cannot be tested by a script. They cover failing connections, streams and
+//! stores, stores with caches, polling rounds, schedules, and the reports of `sunreg run`. Other
+//! tests cover inputs of megabytes, values that no script prints, and the values of arguments.
 //!
-//! Tests that a script can run are golden tests of `tests/scripts`, and `tests/arguments.py` tests
-//! help and wrong arguments.
+//! Cases that can be tested by a script are golden tests of `tests/scripts`, and
+//! `tests/arguments.py` tests help and wrong arguments.
 #![tactic(auto)]
 
 #[cfg(test)]

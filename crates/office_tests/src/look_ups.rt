@@ -1,4 +1,4 @@
-//! Tests how many calls of the store are made before an event is refused or a retry is answered.
+//! Tests how many calls to the store are made before an event is refused or a retry is answered.
 use crate::offices::{READ, event_of, new_books, office_after, opened, request_of};
 use memory_books::{FailingBooks, ListBooks};
 use office_books::Books;
@@ -6,7 +6,7 @@ use office_events::{Answer, CommandKind, Event, Refusal, StoreCause};
 use std::alloc::Global;
 use std::process::Abort;
 
-// Script lines, each with the number of calls of the store before the line's event is refused, and
+// Script lines, each with the number of calls to the store before the line's event is refused, and
 // the expected refusal.
 static CASES: [(&str, u64, Refusal); 25] = [
     ("2000 device inv 1 5 1", 0, Refusal::Exists),
@@ -36,7 +36,8 @@ static CASES: [(&str, u64, Refusal); 25] = [
     ("2000 round inv 0", 1, Refusal::NotFound),
 ];
 
-// The number of calls of the store at a start without a pending poll.
+// The number of calls to the store when an office (the core of `sunreg`) is opened without a
+// pending poll.
 const OPENING: u64 = 3;
 
 const REFUSED: Result<Answer, Refusal> = Err(Refusal::Store(StoreCause::Refused));
@@ -81,7 +82,7 @@ fn feed_after(
     feed(rt, alloc, books, at, event)
 }
 
-/// A refused event makes no further call of the store once the reason for the refusal is known.
+/// A refused event makes no further call to the store once the reason for the refusal is known.
 #[test]
 fn books_are_asked_no_more_than_it_takes(rt: HostRuntime) {
     for (line, calls, answer) in &CASES {
@@ -95,7 +96,7 @@ fn books_are_asked_no_more_than_it_takes(rt: HostRuntime) {
     }
 }
 
-/// A retried request is recognized with one call of the store.
+/// The office (the core of `sunreg`) recognizes a retried request with one call to the store.
 #[test]
 fn a_retry_is_looked_up_once(rt: HostRuntime) {
     let (at, event) = request_of(&rt, rt.alloc(), b"desk", 1, KEPT);

@@ -1,5 +1,6 @@
-//! Tests that names are equal if their texts are, that timeouts and windows (limits on pending
-//! polls) keep their numbers, and that copies equal their originals.
+//! Tests that names are equal if their texts are equal, and that copies equal their originals. Also
+//! tests that timeouts and windows (limits on pending polls) return the numbers from which they
+//! were created.
 use crate::offices::{LIST, name_of, planned};
 use office_events::{Piece, Timeout, Window};
 use read_plan::lists_are_planned_once;

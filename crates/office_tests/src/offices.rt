@@ -51,7 +51,7 @@ pub(crate) fn books_failing_at(rt: &impl Abort, alloc: Global, call: u64) -> Fai
     FailingBooks::new(new_books(rt, alloc), call)
 }
 
-/// Opens an `Office` (the core of `sunreg`) over a store. If a call of the store fails, opens it
+/// Opens an `Office` (the core of `sunreg`) over a store. If a call to the store fails, opens it
 /// again over the returned store.
 pub(crate) fn opened<B: Books>(rt: &impl Abort, alloc: Global, books: B, moment: u64) -> Office<B> {
     let (books, why) = match Office::open(alloc, books, moment) {
@@ -124,7 +124,7 @@ pub(crate) fn assert_accepted<B: Books>(
     }
 }
 
-/// Opens an `Office` (the core of `sunreg`) and processes the events of these script lines.
+/// Opens an `Office` (the core of `sunreg`) and processes the events of the given script lines.
 pub(crate) fn office_after<B: Books>(
     rt: &impl Abort,
     alloc: Global,

@@ -1,4 +1,5 @@
-//! Tests queries for some of a meter's entries or quarter hours that no HTTP request can make.
+//! Tests queries that no HTTP request can make: for some of a meter's entries, and for its quarter
+//! hours in a time span.
 use crate::offices::{READ, event_of, office_after};
 use crate::site::LINES;
 use crate::tried::{Trial, try_in_memory};

@@ -93,8 +93,8 @@ fn nothing_ends_past_the_last_moment(rt: HostRuntime) {
     assert!(rt; period_end(&zone, Period::Day, day, u64::MAX) == None);
 }
 
-/// The last polling round before a change of files may take half of its polling interval, but at
-/// most 30 seconds.
+/// The last polling round before a change of files is allowed to take half of its polling interval,
+/// but at most 30 seconds.
 #[test]
 fn a_last_round_has_half_the_time_to_the_next(rt: HostRuntime) {
     for (every, seconds) in [(1, 0), (2, 1), (10, 5), (60, 30), (61, 30), (86_400, 30)] {

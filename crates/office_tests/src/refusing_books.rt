@@ -29,8 +29,8 @@ static LEFT: [Ends; 4] = [
     [ANSWERED, RESTARTED, None],
 ];
 
-// The test's result if no call of the store failed. The other result, `NOT_BROKEN`, means that a
-// call failed, but only before the polling round.
+// The test's result if no call to the store fails. The result `NOT_BROKEN` means that the chosen
+// call fails before the polling round begins.
 const NOT_REFUSED: u64 = 10;
 
 const NOT_BROKEN: u64 = 11;
@@ -49,9 +49,9 @@ fn place_of(left: Ends) -> u64 {
 /// Executes a polling round over a store that fails at a chosen call. If an event before the round
 /// fails, it is processed again.
 ///
-/// If the start of a poll fails, no poll is pending, and a restart adds no outcome. If the call for
-/// a response fails, every event is refused until a restart, which loses the poll. Returns the
-/// index in `LEFT` of the outcomes after the restart.
+/// If the call that records a poll's start fails, no poll is pending, and a restart adds no
+/// outcome. If the call that records a response fails, every event is refused until a restart,
+/// which loses the poll. Returns the index in `LEFT` of the outcomes after the restart.
 pub(crate) fn refuse_call<B: Books>(rt: &impl Abort, alloc: Global, books: B) -> u64 {
     let mut office = listed(rt, alloc, books, ONE_BY_ONE);
     let mut given = [0; 24];

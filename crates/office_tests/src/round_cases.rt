@@ -63,7 +63,7 @@ ok
 /// How the device behaves in a polling round.
 #[derive(Clone, Copy)]
 enum Does {
-    /// The device responds to both Modbus reads. If a number is given, the call of the link with
+    /// The device responds to both Modbus reads. If a number is given, the call to the link with
     /// this number fails.
     Replies(Option<u64>),
     /// The device closes the connection without a response.
@@ -139,8 +139,9 @@ static CASES: [Case; 11] = [
         BROKEN_OFF,
         FIRST,
     ),
-    // One of the four calls of the link fails. The polling round makes one write and one read for
-    // each poll, and never a fifth call.
+    // In the first four cases, one of the four calls to the link fails. The round makes one write
+    // and one read for each of its two polls. In the fifth case no call fails, because the round
+    // makes no fifth call.
     (Does::Replies(Some(1)), &[1000], LINK, BROKEN_OFF, FIRST),
     (Does::Replies(Some(2)), &[1000], LINK, BROKEN_OFF, FIRST),
     (Does::Replies(Some(3)), &[1000], LINK, SECOND_LOST, SECOND),
@@ -150,7 +151,7 @@ static CASES: [Case; 11] = [
     (Does::TakesNothing, &[1000], LINK, BROKEN_OFF, FIRST),
 ];
 
-// Executes a polling round over a link in memory with this input. One call of the link may fail.
+// Executes a polling round over a link in memory with this input. One call to the link may fail.
 // Returns the number of failed calls.
 fn round_over_memory<B: Books>(
     alloc: Global,
@@ -166,7 +167,7 @@ fn round_over_memory<B: Books>(
 }
 
 // Executes a polling round with a device that behaves as `does` says. Returns the number of failed
-// calls of the link.
+// calls to the link.
 fn round_of<B: Books>(
     alloc: Global,
     office: &mut Office<B>,

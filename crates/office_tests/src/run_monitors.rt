@@ -9,7 +9,7 @@ use std::alloc::Global;
 use std::process::Abort;
 use std::str;
 
-// Processes these events for both devices, with a monitor as the observer of all events.
+// Processes the given events for both devices, with a monitor as the observer of all events.
 fn polled(rt: &impl Abort, alloc: Global, moments: &[Moment]) -> Bench<RunMonitor> {
     let monitor = RunMonitor::new(alloc, &names()).expect(rt, "a monitor");
     play(rt, alloc, new_books(rt, alloc), moments, monitor)
@@ -46,8 +46,8 @@ fn frames_wait_for_their_device(rt: HostRuntime) {
     }
 }
 
-// Events that begin with the connection of a device, with the expected numbers of polls that are
-// lost and that time out.
+// Lists of events that begin with the connection of a device. Each list has its expected number of
+// lost polls, and its expected number of polls that time out.
 static ENDINGS: [(&[Moment], u64, u64); 2] = [
     (&[STANDS, (1002, Step::Ended(0, Closing::Failed))], 1, 0),
     (&[STANDS, (1006, Step::Tick), (1011, Step::Tick)], 0, 2),

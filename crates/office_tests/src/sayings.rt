@@ -1,4 +1,4 @@
-//! Tests messages that are printed only once, and log lines that are not read.
+//! Tests messages that are printed only once, and a log queue whose reader is too slow.
 use office_events::Name;
 use run_http::status::{LineQueue, Reported, ReportedNumber, Topic};
 

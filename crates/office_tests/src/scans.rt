@@ -14,7 +14,7 @@ impl ScanObserver for Nobody {
 }
 
 // The responses of a device to the four reads of a scan. They contain the SunSpec mark, the head of
-// a model 103 with 50 Modbus registers, its registers, and the end model. The model's energy
+// a model 103 with 50 Modbus registers, these registers, and the end model. The model's energy
 // counter shows 5000 at scale factor 0.
 const REPLIES: &[u8] = &[
     0, 1, 0, 0, 0, 7, 1, 3, 4, 83, 117, 110, 83, 0, 2, 0, 0, 0, 7, 1, 3, 4, 0, 103, 0, 50, 0, 3, 0,
@@ -24,8 +24,8 @@ const REPLIES: &[u8] = &[
     0, 0, 0, 0, 0, 0, 0, 0, 0, 0, 0, 0, 0, 0, 4, 0, 0, 0, 7, 1, 3, 4, 255, 255, 0, 0,
 ];
 
-// For each test, the number of the link call that fails: the first write, the first read, and a
-// write of the last request.
+// For each test, the number of the call to the link (connection) that fails: the first write, the
+// first read, and a write of the last request.
 static CALLS: [u64; 3] = [1, 13, 180];
 
 #[test]

@@ -9,7 +9,8 @@ fn a_device_is_due_at_multiples(rt: HostRuntime) {
         (60, 0, 60),
         (60, 59, 60),
         (60, 60, 120),
-        // Polls that were due in the past and missed are not made up for.
+        // Missed polls are not made up for. The next poll is due at the next multiple of the
+        // polling interval.
         (60, 187, 240),
         (1, 41, 42),
         (900, 1_700_000_000, 1_700_000_100),
@@ -35,7 +36,8 @@ fn pauses_grow(rt: HostRuntime) {
     assert!(rt; retry_at(100, 32, 120) == 120);
 }
 
-/// A polling round may take as long as its polling interval, but at least a minute.
+/// A polling round is allowed to take as long as its polling interval, and always at least a
+/// minute.
 #[test]
 fn a_round_lasts_a_minute_at_least(rt: HostRuntime) {
     assert!(rt; round_until(10, 1000) == 1060);
@@ -79,8 +81,8 @@ fn a_clock_that_goes_ahead_is_reported(rt: HostRuntime) {
     }
 }
 
-/// Attempts to connect to a device are repeated after growing pauses, and may take five seconds
-/// each. In this test three attempts fail, and the fourth succeeds.
+/// Attempts to connect to a device are repeated after growing pauses, and each has a limit of five
+/// seconds. In this test three attempts fail, and the fourth succeeds.
 #[test]
 fn a_device_is_tried_again(rt: HostRuntime) {
     let mut timing = Timing::new(60, 100);

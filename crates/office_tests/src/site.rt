@@ -25,9 +25,9 @@ pub(crate) static LINES: [&str; 9] = [
     "1900 close solo 9 0",
 ];
 
-// Each accounting register (a named counter) with its device and its latest meter. The counter at
-// the register `solo` advanced from 7 to 9 at the scale factor 2, which is 200 Wh. The meter `m2`
-// was just installed.
+// Each accounting register (a named counter) with its device and the meter that was installed last.
+// The counter of the register `solo` advanced from 7 to 9 at the scale factor 2, which is 200 Wh.
+// The meter `m2` was just installed.
 const SITE: &str = "roof main meter m2 last 10 sf -1 at 1900 total 0 open
 roof export refused 1
 inv solo meter m3 last 9 sf 2 at 1900 total 200000 ended
@@ -74,7 +74,7 @@ pub(crate) fn ask<B: Books>(rt: &impl Abort, alloc: Global, books: B) -> u64 {
     }
 }
 
-/// A query for the accounting registers (named counters) of all devices makes six calls of the
+/// A query for the accounting registers (named counters) of all devices makes six calls to the
 /// store. If one of the calls fails, a repeated query succeeds.
 #[test]
 fn a_site_is_reported_while_the_store_refuses_a_call(rt: HostRuntime) {
@@ -83,12 +83,13 @@ fn a_site_is_reported_while_the_store_refuses_a_call(rt: HostRuntime) {
         let asked = try_failing(&rt, rt.alloc(), failing, Trial::Site);
         refused = refused.saturating_add(asked);
     }
-    // One call of the store is for the devices, two are for the accounting registers (named
+    // One call to the store is for the devices, two are for the accounting registers (named
     // counters) of the two devices, and three are for the meters.
     assert!(rt; refused == 6);
 }
 
-// Names of accounting registers (named counters), each with the expected latest meter.
+// Names of accounting registers (named counters), each with the printed line of the meter that was
+// installed last. If no meter was installed, or no register has the name, a refusal is printed.
 static METERS: [(&[u8], &str); 5] = [
     (b"main", "meter m2 last 10 sf -1 at 1900 total 0 open\n"),
     (b"export", "refused 1\n"),

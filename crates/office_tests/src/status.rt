@@ -13,7 +13,7 @@ fn outcome(outcome: Outcome) -> Note {
 }
 
 // The counts after the test's history of events. Two polls were answered, and one poll ended with
-// each other outcome. One reading was accepted, and two were rejected.
+// each of the other outcomes. One reading was accepted, and two were rejected.
 fn counts() -> Counts {
     let mut counts = Counts::new();
     counts.note_all(&[

@@ -25,16 +25,16 @@ pub(crate) enum Step {
     /// A Modbus read of the device, by function, address and count, covers these accounting
     /// registers (named counters).
     Read(u8, u16, u16, &'static [&'static str]),
-    /// The latest meter at the accounting register `main` (a named counter) has this name and this
-    /// energy in mWh. The last value is true if the meter is closed.
+    /// The meter that was installed last at the accounting register `main` (a named counter) has
+    /// this name and this energy in mWh. The last value is true if the meter is closed.
     Installed(&'static [u8], u64, bool),
     /// The meter with this name has this energy in mWh. The last value is true if the meter is
     /// closed.
     Meter(&'static [u8], u64, bool),
     /// The store has this number of installed meters.
     Meters(usize),
-    /// The meter has an entry with this sequence number, and this energy before the entry in mWh.
-    /// The last value is true if the entry is voided (cancelled).
+    /// The meter has an entry with this sequence number, and before this entry the meter has this
+    /// energy in mWh. The last value is true if the entry is voided (cancelled).
     Entry(&'static [u8], u64, u64, bool),
     /// A lookup with `entry_near` finds the meter's entry with this sequence number. The meter has
     /// this count before the entry. The last number is the meter's total energy, in mWh.

@@ -74,8 +74,8 @@ impl Kept {
         Kept::new(alloc, usize::MAX, 8192)
     }
 
-    /// Asserts that the writer received a prefix of the output, or all of it if no call failed.
-    /// Also asserts that no call followed a failed call. Returns true if no call failed.
+    /// Asserts that the writer received a prefix of the output, or the complete output if no call
+    /// failed. Also asserts that no call followed a failed call. Returns true if no call failed.
     pub(crate) fn assert_written(&self, rt: &impl Abort, output: &str) -> bool {
         let whole = self.calls < self.failing;
         assert!(rt; self.calls <= self.failing);

@@ -16,7 +16,8 @@ pub(crate) enum Trial {
     Script,
     /// A polling round over a store that fails at a chosen call.
     RefusedRound,
-    /// A polling round in which the call of the link with this number fails.
+    /// A polling round in which the call with this number to the link (the connection to the
+    /// device) fails.
     Link(u64),
     /// The polling round of the test case with this index.
     Round(usize),

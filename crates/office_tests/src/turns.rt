@@ -1,5 +1,5 @@
-//! Tests how a device event is processed, together with the events that polling rounds request
-//! after it.
+//! Tests how an event from a device (such as its response) is processed, together with the
+//! follow-up events that the polling rounds then generate.
 use crate::benches::{Bench, Moment, Step, play};
 use crate::observer::Seen;
 use crate::offices::new_books;
@@ -92,7 +92,8 @@ static TURNS: [(&[Moment], &str, usize); 7] = [
     ),
 ];
 
-/// A device event is processed first, and then the events that the polling rounds request.
+/// A device event is processed first. Then the polling rounds generate follow-up events, such as
+/// the start of the next poll, and these are processed.
 #[test]
 fn turns_feed_what_rounds_wish(rt: HostRuntime) {
     for (moments, text, frames) in TURNS {

@@ -201,7 +201,8 @@ sunssf-of name model q f same =
     let here : bytes_eq f.row.name name ≡ true = (bytes_eq-Decides f.row.name name).1 (sym f.name ∙ same) in
     ap is_sunssf f.kind ∙ (rw here at f.passes)
 
--- The scale point (SunSpec scale factor) of a model's point is in the point list.
+-- If the scale point (SunSpec scale factor) of a model's point was read, it is in the point list,
+-- close enough for one read of both.
 scale-there : (all : List ListedPoint) → AllPairs (λ a b. a.name ≢ b.name) all → (word : Words) (place : ℕ) (model : Model)
     → ((s : ListedPoint) → Among s (model_points word place model) → Among s all)
     → (p : ModelPoint) → FromRow (is_good_row (table_of model.id)) model p → (name : List ℕ)

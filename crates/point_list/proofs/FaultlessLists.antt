@@ -190,14 +190,17 @@ faultless-lawful rows none scaled =
     lawful rows (points_of rows) none (faultless-each rows none)
     (none-lacking 2 (λ point. scale_fault (points_of rows) point point.scale) (points_of rows) scaled)
 
--- If no row of a point list (CSV) has another fault, the faulty rows are those with a faulty scale.
+-- Suppose that no row of a point list (CSV) has a fault, apart from faults of scale points. Then
+-- the faulty rows are those with a fault of their scale point.
 pub below-faults : (rows : List (List (List ℕ))) (n : ℕ) (reported : List FaultyRow) → length rows ≡ n → reported ≡ faulty_rows 2 (row_faults rows n) → reported ≡ []
     → faults_below rows ≡ faulty_rows 2 (scale_faults (points_of rows) (points_of rows))
 below-faults rows n reported size is none =
     let nothing : faulty_rows 2 (row_faults rows (length rows)) ≡ [] = ap (λ (k : ℕ). faulty_rows 2 (row_faults rows k)) size ∙ sym is ∙ none in
     ap (λ (faults : List FaultyRow). or_else faults (faulty_rows 2 (scale_faults (points_of rows) (points_of rows)))) nothing
 
--- A list that was built from the points of CSV rows is the point list that the rows encode.
+-- Suppose that no row of a point list (CSV) has a fault, apart from faults of scale points. If a
+-- list is created from the rows' points, the rows encode this list. Otherwise the error explains
+-- why the rows encode no list.
 pub below-list : (rows : List (List (List ℕ))) (n : ℕ) (reported : List FaultyRow) (points : List ListedPoint) (result : Result (List ListedPoint) ListFault) → length rows ≡ n
     → reported ≡ faulty_rows 2 (row_faults rows n) → reported ≡ [] → points ≡ points_of rows
     → IfOk result (λ list. (list ≡ points) × (faulty_rows 2 (scale_faults points points) ≡ [])) → IfErr result (ExplainsList (faulty_rows 2 (scale_faults points points)))

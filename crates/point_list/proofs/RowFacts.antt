@@ -129,8 +129,8 @@ rows-full n s2 xs ys rows h e =
     let b = rows-begin s2 xs ys rows h in
     rw (b.1, ← e) (sym (take-append-le (length rows) rows b.0 (omega arith) ∙ take_all (length rows) rows (omega arith)))
 
--- If at most `n` CSV rows were read and no record follows, the rows are the first `n` records of
--- the text.
+-- Suppose that at most `n` CSV rows were read and no record follows. Then the rows are the first
+-- `n` records of the text (all records, if there are fewer).
 pub rows-all : (n : ℕ) (s2 : State) (xs ys : List ℕ) (rows : List (List (List ℕ))) → Reached default_config st.StartRecord xs rows s2 ys → length rows ≤ n
     → next_record default_config s2 [] [] ys ≡ None → rows ≡ take n (records default_config xs)
 rows-all n s2 xs ys rows h e stop =

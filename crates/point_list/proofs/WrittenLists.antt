@@ -98,7 +98,7 @@ written-sound place taken point a untaken below =
 bytes-other : (a b : List ℕ) → a ≢ b → bytes_eq a b ≡ false
 bytes-other a b other = elim (cases_Bool (bytes_eq a b)) [ inl same ↦ absurd (other ((bytes_eq-Decides a b).0 same)) | inr no-same ↦ no-same ]
 
--- In a point list with distinct names, no earlier row has the name of a point.
+-- In a point list with distinct names, no row before the row of a point has this point's name.
 pub untaken : (points : List ListedPoint) (place : ℕ) (d : ListedPoint) → place < length points → AllPairs (λ a b. a.name ≢ b.name) points
     → list_any (has_name (get_or points place d).name) (take place (map row_of points)) ≡ false
 untaken points place d below distinct =

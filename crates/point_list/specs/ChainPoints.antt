@@ -27,16 +27,16 @@ use Rattle.mb_wire.specs.declared.span.ReadFunction.TheVariants.{HoldingRegister
 abbrev pub chain_name : ℕ → List ℕ → List ℕ
 chain_name place name = codes "m" ++ (decimal place ++ (codes "." ++ name))
 
--- The scale of a point of SunSpec model number `place`: the scale factor point with this name if it
--- was read, otherwise `Unscaled`.
+-- The scale of a point of the SunSpec model with the given number: the scale factor point with this
+-- name if it was read, otherwise `Unscaled`.
 abbrev pub chain_scale : ℕ → List ModelPoint → Option (List ℕ) → PointScale
 chain_scale place others None = Unscaled
 chain_scale place others (Some name) =
     if list_any (λ other. bytes_eq other.name name) others then Named (chain_name place name)
     else Unscaled
 
--- The point list's entry for a point of SunSpec model number `place`, read from holding registers.
--- `others` are all points of the model, among them the scale point (scale factor), if it was read.
+-- The point list's entry for a point of a SunSpec model, read from holding registers. The list has
+-- all points of the model, among them the scale point (scale factor), if it was read.
 abbrev pub listed : ℕ → ℕ → List ModelPoint → ModelPoint → ListedPoint
 listed place id others point = record {
   name = chain_name place point.name;
@@ -54,12 +54,14 @@ HasScaleName place id point =
     IfSome (scale_name_in (table_of id) point.name)
     (λ name. IsTrue (is_name (chain_name place name)))
 
--- The point list's entries for all points of SunSpec model number `place` that were read.
+-- The point list's entries for all points that were read of the SunSpec model with the given
+-- number.
 abbrev pub model_points : Words → ℕ → Model → List ListedPoint
 model_points word place model =
     map (listed place model.id (points_in word model)) (points_in word model)
 
--- The point list's entries for consecutive SunSpec models. The first model has number `place`.
+-- The point list's entries for consecutive SunSpec models, which are numbered from the given number
+-- on.
 abbrev pub points_from : Words → ℕ → List Model → List ListedPoint
 points_from word place [] = []
 points_from word place (model ∷ models) =

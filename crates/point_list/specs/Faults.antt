@@ -15,7 +15,7 @@ use Rattle.point_list.specs.Fields.{fixed_scale_of, function_of, number_within, 
 use Rattle.point_list.specs.Names.{is_name}
 use Rattle.point_list.specs.Points.{takes_scale}
 
--- The number that the program prints for each fault of a point list's row.
+-- The numeric code that the program prints for each fault of a point list's row.
 abbrev pub fault_number : RowFault → ℕ
 fault_number Csv = 1
 fault_number Header = 2
@@ -49,7 +49,7 @@ six_fields _ = None
 abbrev pub has_name : List ℕ → List (List ℕ) → Bool
 has_name name fields = option_map_or (λ row. bytes_eq row.name name) (six_fields fields) false
 
--- True if the field of a row is not a whole number between `low` and `high`.
+-- True if the field of a row is not a whole number from the first limit to the second limit.
 abbrev pub is_no_number : ℕ → ℕ → List ℕ → Bool
 is_no_number low high field = is_none (number_within low high field)
 
@@ -76,8 +76,8 @@ abbrev pub first_of : List (RowFault × Bool) → Option RowFault
 first_of [] = None
 first_of (fault ∷ faults) = if fault.1 then Some fault.0 else first_of faults
 
--- Each fault of a point list's row with its condition, for a row of six fields at index `place`
--- below the header. `taken` is true if an earlier row has the same name.
+-- Each fault of a point list's row with its condition, for a row of six fields at an index below
+-- the header. The flag is true if an earlier row has the same name.
 abbrev pub conditions_where : Bool → ℕ → RowText → List (RowFault × Bool)
 conditions_where taken place row =
     (Name, not (is_name row.name))
@@ -94,18 +94,18 @@ conditions_where taken place row =
     ∷ (TooMany, nat_le POINT_LIMIT place)
     ∷ []
 
--- Each fault of a point list's row with its condition, for a row of six fields after the rows
--- `earlier`.
+-- Each fault of a point list's row with its condition, for a row of six fields after the earlier
+-- rows.
 abbrev pub conditions : ℕ → List (List (List ℕ)) → RowText → List (RowFault × Bool)
 conditions place earlier row = conditions_where (list_any (has_name row.name) earlier) place row
 
--- The first fault of a point list's row after the rows `earlier`, or `None`. Faults of the row's
+-- The first fault of a point list's row after the earlier rows, or `None`. Faults of the row's
 -- scale point (SunSpec scale factor) are not considered.
 abbrev pub least_fault : ℕ → List (List (List ℕ)) → List (List ℕ) → Option RowFault
 least_fault place earlier fields =
     option_map_or (λ row. first_of (conditions place earlier row)) (six_fields fields) (Some Csv)
 
--- The six fields of a point list's row as texts, converted from the type of the code.
+-- The six fields of a point list's row as texts, converted from the program's `RowFields`.
 abbrev pub seen_row : RowFields → RowText
 seen_row row =
     record {

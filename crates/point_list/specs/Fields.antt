@@ -15,7 +15,7 @@ use Rattle.mb_wire.specs.declared.span.ReadFunction.TheVariants.{HoldingRegister
 abbrev pub number_of : List ℕ → Option ℕ
 number_of field = number_of_digits 10 field
 
--- The whole number in a field if it is between `low` and `high`, or `None`.
+-- The whole number in a field if it is from the first limit to the second limit, otherwise `None`.
 abbrev pub number_within : ℕ → ℕ → List ℕ → Option ℕ
 number_within low high field =
     option_and_then (λ n. if nat_le low n && nat_le n high then Some n else None) (number_of field)
@@ -51,7 +51,7 @@ type_of field =
     else if bytes_eq field (codes "sunssf") then Some kind.Sunssf
     else text_type_of field
 
--- The integer -n.
+-- The negative of the given number.
 abbrev pub minus : ℕ → ℤ
 minus zero = pos 0
 minus (suc n) = negsuc n

@@ -13,7 +13,7 @@ HandsOver takes (Ok done) text old new = takes old text (Ok done) new
 HandsOver takes (Err Write) text old new = (error : Error) × takes old text (Err error) new
 HandsOver takes (Err Memory) text old new = new ≡ old
 
--- The number of each fault of writing a point list.
+-- The numeric code of each fault of writing a point list.
 abbrev pub write_fault_number : WriteListFault → ℕ
 write_fault_number Write = 1
 write_fault_number Memory = 2

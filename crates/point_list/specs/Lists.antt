@@ -21,8 +21,8 @@ use Rattle.point_list.specs.Rows.{csv_rows}
 use Rattle.point_list.specs.declared.rows.TheConstants.{ROW_LIMIT}
 use Rattle.mb_wire.specs.declared.limits.TheConstants.{MAX_READ_REGISTERS}
 
--- The scale with the name in a field, which refers to a scale point (SunSpec scale factor). `None`
--- if the field is not a valid name.
+-- The scale that refers to a scale point (SunSpec scale factor) by the name in a field. `None` if
+-- the field is not a valid name.
 abbrev pub named_scale : List ℕ → Option PointScale
 named_scale field = if is_name field then Some (Named field) else None
 
@@ -71,11 +71,13 @@ point_of_row fields = option_and_then point_spelled (six_fields fields)
 abbrev pub points_of : List (List (List ℕ)) → List ListedPoint
 points_of rows = flat_map (λ fields. option_to_list (point_of_row fields)) rows
 
--- The first fault of the row at index `place` below the header of a point list, from 0, or `None`.
+-- The first fault, or `None`, of the row at an index below the header of a point list. The first
+-- row below the header has index 0.
 abbrev pub row_fault : List (List (List ℕ)) → ℕ → Option RowFault
 row_fault rows place = least_fault place (take place rows) (slice_index_or rows place [])
 
--- The first fault or `None`, for each of the first `n` rows below the header of a point list.
+-- The first fault (or `None`) of each of the first rows below the header of a point list. The
+-- second argument is the number of these rows.
 abbrev pub row_faults : List (List (List ℕ)) → ℕ → List (Option RowFault)
 row_faults rows zero = []
 row_faults rows (suc n) = row_faults rows n ++ (row_fault rows n ∷ [])
@@ -99,11 +101,13 @@ abbrev pub scale_fault : List ListedPoint → ListedPoint → PointScale → Opt
 scale_fault points point (Named name) = group_fault point (scale_point points name)
 scale_fault points point _ = None
 
--- The fault of the point's scale or `None`, for each point of the list `some`.
+-- The fault of the scale (or `None`) of each point of the second list. The first list has all
+-- points of the point list.
 abbrev pub scale_faults : List ListedPoint → List ListedPoint → List (Option RowFault)
 scale_faults points some = map (λ point. scale_fault points point point.scale) some
 
--- The rows of a point list that have a fault, in order. `row` is the number of the first row.
+-- The rows of a point list that have a fault, in order. The first argument is the number of the
+-- first row.
 abbrev pub faulty_rows : ℕ → List (Option RowFault) → List FaultyRow
 faulty_rows row [] = []
 faulty_rows row (None ∷ faults) = faulty_rows (row + 1) faults
@@ -181,8 +185,8 @@ abbrev pub ExplainsList : List FaultyRow → ListFault → Type 0
 ExplainsList faulty Memory = Unit {0}
 ExplainsList faulty (Faults reported) = AreFaults faulty reported
 
--- The number that the program prints for a fault of a point list. `Faults` has no number, because
--- each faulty row is printed with its own number.
+-- The numeric code that the program prints for a fault of a point list. `Faults` has no code,
+-- because each faulty row is printed with its own code.
 abbrev pub list_fault_number : ListFault → Option ℕ
 list_fault_number Memory = Some 13
 list_fault_number (Faults reported) = None

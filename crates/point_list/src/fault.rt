@@ -43,7 +43,7 @@ pub enum RowFault {
 impl RowFault {
     ghost use Rattle.point_list.specs.Faults.{fault_number};
 
-    /// Returns the number of the row's fault, counted from 1.
+    /// Returns the numeric code of the row's fault. The codes begin at 1.
     pub fn number(self) -> u8
         ensures { result ≡ fault_number self }
     {
@@ -168,8 +168,8 @@ pub enum ListFault {
 impl ListFault {
     ghost use Rattle.point_list.specs.Lists.{list_fault_number};
 
-    /// Returns the number that the program prints for the fault of a point list. `Faults` has no
-    /// number, because each faulty row is printed with its own number.
+    /// Returns the numeric code that the program prints for the fault of a point list. `Faults` has
+    /// no code, because each faulty row is printed with its own code.
     pub fn number(&self) -> Option<u8>
         ensures { result ≡ list_fault_number self.now }
     {

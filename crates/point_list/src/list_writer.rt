@@ -24,8 +24,8 @@ pub enum WriteListFault {
 impl WriteListFault {
     ghost use Rattle.point_list.specs.ListWriter.{write_fault_number};
 
-    /// Returns the number of the reason why a point list was not written, counted from 1. The
-    /// program does not print this number.
+    /// Returns the numeric code of the reason why a point list was not written. The codes begin at
+    /// 1. The program does not print them.
     pub fn number(self) -> u8
         ensures { result ≡ write_fault_number self }
     {

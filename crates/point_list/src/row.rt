@@ -97,8 +97,9 @@ fn is_bad(scale: &[u8], kind: Option<PointType>) -> bool
     }
 }
 
-/// Returns the first fault of the row at index `place` below the header of a point list, from 0.
-/// Faults of the row's scale point (SunSpec scale factor) are not checked.
+/// Returns the first fault of the row at index `place` below the header of a point list. The first
+/// row below the header has index 0. Faults of the row's scale point (SunSpec scale factor) are not
+/// checked.
 pub fn least_row_fault(place: usize, earlier: &[ByteRecord], row: &ByteRecord) -> Option<RowFault>
     ensures { result ≡ least_fault place (map fields_of earlier.now) (fields_of row.now) }
 {

@@ -55,8 +55,8 @@ and_fresh : (g b : Bool) → b ≡ false → (g && not b) ≡ g
 and_fresh true b h = ap not h
 and_fresh false b h = refl
 
--- If a session is over after an event, and was not over before the event, then the event gives a
--- cause for its end.
+-- If a session is over after an event, but was not over before it, then `ending_at` gives a cause
+-- for the end of the session.
 ending_at-over : (es : List Event) (e : Event) → is_over es ≡ false → is_over (es ++ e ∷ []) ≡ true → is_some (ending_at es e) ≡ true
 unfolding is_over ending_at
 ending_at-over es e going over =
@@ -84,7 +84,7 @@ not_some : {X : Type 0} (o : Option X) → o ≡ None → IsSome o → ⊥
 not_some None h g = cc
 not_some (Some x) h g = cc
 
--- A session that is over has no pending poll, also after one more event.
+-- If a session that is over has no pending poll, then it has none after one more event either.
 keeps : (t w : ℕ) (es : List Event) (e : Event) → Accepts t w es e → (is_over es ≡ true → pending t es ≡ []) → is_over (es ++ e ∷ []) ≡ true → pending t (es ++ e ∷ []) ≡ []
 keeps t w es (Start m n u s) accepted h over =
     let was : is_over es ≡ true = sym (is_over-same es (Start m n u s) refl ∙ or_false (is_over es)) ∙ over in

@@ -83,7 +83,7 @@ both_silent = refl
 
 -- Examples of the limits on times, timeouts and pending polls, as numbers.
 
--- The beginning of 2100 in seconds: 130 years from 1970, 32 of them leap years.
+-- The beginning of 2100, in seconds since 1970: 130 years, 32 of them leap years.
 the_last_moment : LAST_MOMENT ≡ (130 * 365 + 32) * 86400
 the_last_moment = refl
 

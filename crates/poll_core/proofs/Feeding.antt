@@ -82,8 +82,8 @@ Finds-nothing a buffered ps e =
       others_are = unmatched-nil ps;
     }
 
--- If the frames of a first chunk complete no poll, then reading two chunks one by one has the
--- effect of reading both at once.
+-- If the frames of a first chunk complete no poll, then processing a second chunk next has the same
+-- effect as processing both at once.
 pub Finds-then : (a p q : List ℕ) (mid buffered : Buffered) (ps qs : List Poll) (o : Option Poll) → Finds a p ps None mid ps → Finds mid.rest q ps o buffered qs → Finds a (p ++ q) ps o buffered qs
 Finds-then a p q mid buffered ps qs o first second =
     record {
@@ -100,16 +100,16 @@ Finds-then a p q mid buffered ps qs o first second =
 some_inj : {X : Type 0} (a b : X) → Some a ≡ Some b → a ≡ b
 some_inj a b e = cc
 
--- The frame that the frame reader returns completes the same poll as the bytes that the reader has
--- buffered.
+-- A poll is completed by the frame whose bytes the frame reader has buffered. The fields that the
+-- reader returns for this frame complete the same poll.
 pub FindsBy-lent : (buffered : Option (List ℕ)) (fields : Fields) (ps qs : List Poll) (o : Option Poll) → Some fields ≡ option_map fields_of buffered → AreApart ps → TakesOut (has_id fields.tid) ps o qs → (f : List ℕ) → buffered ≡ Some f → IsOwn f → FindsBy f ps o qs
 FindsBy-lent buffered fields ps qs o lent apart h f e own =
     let same : fields ≡ fields_of f = some_inj _ _ (lent ∙ ap (option_map fields_of) e) in
     let P : ℕ → Type 0 = λ id. TakesOut (has_id id) ps o qs in
     FindsBy-own f ps qs o own apart (subst P (ap (λ (x : Fields). x.tid) same) h)
 
--- The invariant of the loop that feeds bytes to the frame reader: the bytes fed until now completed
--- no poll.
+-- Invariant of the loop that feeds a chunk to the frame reader: the first `at` bytes of the chunk
+-- completed no poll.
 pub record Strays (old : List ℕ) (piece : List ℕ) (at : ℕ) (polls : List Poll) (buffered : Buffered) : Type 0 where
   pub within : at ≤ length piece
   pub apart : AreApart polls
@@ -121,8 +121,8 @@ piece-more at n piece = take-add at n piece ∙ ap (λ x. take at piece ++ take 
 abbrev slice_at : ℕ → List ℕ → List ℕ
 slice_at at piece = take (length piece - at) (drop at piece)
 
--- After one more call of `feed`, the invariant of the feed loop (no poll was completed) is true
--- again, or the call completed a poll.
+-- Suppose that the first bytes of a chunk completed no poll. Then the effect of one more call of
+-- `feed` is the effect of all bytes of the chunk so far.
 goes_on : (old piece : List ℕ) (at n : ℕ) (ps qs : List Poll) (o : Option Poll) (mid buffered : Buffered) → Strays old piece at ps mid → Finds mid.rest (take n (slice_at at piece)) ps o buffered qs → Finds old (take (at + n) piece) ps o buffered qs
 goes_on old piece at n ps qs o mid buffered strays more =
     let P : List ℕ → Type 0 = λ y. Finds old y ps o buffered qs in

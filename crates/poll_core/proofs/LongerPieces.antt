@@ -23,8 +23,8 @@ none_lost : (c : LostCause) (ps : List Poll) → losses (Some c) ps ≡ [] → p
 none_lost c [] h = refl
 none_lost c (p ∷ ps) h = absurd (cc)
 
--- If a chunk of received bytes ends a session, then the chunk has an invalid length field, as the
--- flag `b` says.
+-- The flag `b` is true for an invalid length field. If a received chunk ends the session, then `b`
+-- is true.
 lost_before : (b : Bool) (c : LostCause) → cond b (Some Garbled) None ≡ Some c → b ≡ true
 lost_before true c h = refl
 lost_before false c h = absurd (cc)

@@ -20,7 +20,8 @@ option_or_none : {X : Type 0} (a : Option X) → option_or a None ≡ a
 option_or_none None = refl
 option_or_none (Some x) = refl
 
--- One more event completes a poll only if no earlier event completed it.
+-- A poll's outcome after one more event is the poll's earlier outcome, if there is one. Otherwise
+-- it is the outcome by this event.
 pub outcome-push : (before later : List Event) (e : Event) (p : Poll) → outcome before (later ++ e ∷ []) p ≡ option_or (outcome before later p) (settled_by (before ++ later) e p)
 outcome-push before [] e p =
     option_or_none (settled_by before e p) ∙ ap (λ b. settled_by b e p) (sym (append-nil before))
@@ -124,8 +125,8 @@ not_started t es (Piece m b) h = refl
 not_started t es (Tick m) h = refl
 not_started t es (Close m c) h = refl
 
--- An event other than the start of a poll removes the polls that time out, and the polls whose
--- transaction identifier a frame has. If it ends the session, it removes all polls.
+-- An event that starts no poll removes the pending polls that time out, and those whose transaction
+-- identifier a received frame has. An event that ends the session removes all pending polls.
 pub pending-other : (t : ℕ) (es : List Event) (e : Event) → is_start e ≡ false → pending t (es ++ e ∷ []) ≡ if_going (ending_at es e) (unmatched (frames_at es e) (alive (moment_of e) (pending t es)))
 pending-other t es e other =
     pending-push t es e

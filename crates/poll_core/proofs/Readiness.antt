@@ -35,8 +35,8 @@ any-push : {X : Type 0} (t : X → Bool) (xs : List X) (x : X) → list_any t (x
 any-push t [] x = or_false (t x)
 any-push t (y ∷ xs) x = ap (λ b. t y || b) (any-push t xs x) ∙ or_assoc (t y) (list_any t xs) (t x)
 
--- The number of pending polls, the next transaction identifier, and whether the session is over,
--- after consecutive starts of polls.
+-- The state after consecutive starts of polls: how many polls are pending, which transaction
+-- identifier is next, and whether the session is over.
 record Started (t : ℕ) (es starts : List Event) : Type 0 where
   count : length (pending t (es ++ starts)) ≡ length (pending t es) + length starts
   next : next_id (es ++ starts) ≡ (next_id es + length starts) % 65536
@@ -81,7 +81,8 @@ starts_add t es (Piece m b ∷ starts) h = absurd (let f : false ≡ true = h.0 
 starts_add t es (Tick m ∷ starts) h = absurd (let f : false ≡ true = h.0 in cc)
 starts_add t es (Close m c ∷ starts) h = absurd (let f : false ≡ true = h.0 in cc)
 
--- A pending poll keeps its transaction identifier after more polls are started.
+-- If a pending poll uses a transaction identifier, the identifier is still in use after more polls
+-- are started.
 still_busy : (t : ℕ) (es starts : List Event) (id : ℕ) → AreStarts starts → list_any (has_id id) (pending t es) ≡ true → list_any (has_id id) (pending t (es ++ starts)) ≡ true
 still_busy t es [] id h busy = ap (λ xs. list_any (has_id id) (pending t xs)) (append-nil es) ∙ busy
 still_busy t es (Start m n u span ∷ starts) id h busy =
@@ -97,7 +98,8 @@ or_both : (a b : Bool) → a ≡ false → b ≡ false → (a || b) ≡ false
 or_both true b h g = absurd (cc)
 or_both false b h g = g
 
--- A transaction identifier that none of the starts uses remains free.
+-- If no pending poll uses a transaction identifier, and none of the later starts gets it, then it
+-- is still unused after these starts.
 still_free : (t : ℕ) (es starts : List Event) (id : ℕ) → AreStarts starts → ((j : ℕ) → j < length starts → id ≢ (next_id es + j) % 65536) → list_any (has_id id) (pending t es) ≡ false → list_any (has_id id) (pending t (es ++ starts)) ≡ false
 still_free t es [] id h others free = ap (λ xs. list_any (has_id id) (pending t xs)) (append-nil es) ∙ free
 still_free t es (Start m n u span ∷ starts) id h others free =
@@ -117,11 +119,12 @@ still_free t es (Piece m b ∷ starts) id h others free = absurd (let f : false 
 still_free t es (Tick m ∷ starts) id h others free = absurd (let f : false ≡ true = h.0 in cc)
 still_free t es (Close m c ∷ starts) id h others free = absurd (let f : false ≡ true = h.0 in cc)
 
--- The transaction identifiers of fewer than 65536 consecutive starts differ.
+-- The transaction identifiers of at most 65536 consecutive starts differ.
 apart_ids : (n j k : ℕ) → j < k → k < 65536 → (n + k) % 65536 ≢ (n + j) % 65536
 apart_ids n j k less few same = omega arith
 
--- A start of a poll that fits in the limits after the earlier starts is not refused.
+-- If `start_fits` allows one more start of a poll after some earlier starts, then the session does
+-- not refuse this start.
 fits_after : (t w m : ℕ) (es starts : List Event) → AreStarts starts → length starts < 65536 → start_fits w (pending t es) (next_id es) (is_over es) (length starts) ≡ true → last_moment (es ++ starts) ≤ m → start_fault t w (es ++ starts) m ≡ None
 fits_after t w m es starts h few fits late =
     let k = length starts in
@@ -183,8 +186,8 @@ ready_is t w es id count next few succeed no_more =
           after_full t w m es starts h e;
     }
 
--- The test whether a start of a poll fits, `start_fits`, has the same result for a session's state
--- as for the events before this state.
+-- The check `start_fits` has the same result, whether it is computed from a session's state or from
+-- the events that led to this state.
 fits_is : (s : State) (es : List Event) (k : ℕ) → Stands s es → start_fits s.window s.polls s.next (is_some s.ending) k ≡ start_fits s.window (pending s.timeout es) (next_id es) (is_over es) k
 fits_is s es k h =
     ap (λ ps. start_fits s.window ps s.next (is_some s.ending) k) h.polls

@@ -37,8 +37,8 @@ pub record Mid (t m n : ℕ) (r : List ℕ) (ps : List Poll) (x : Option LostCau
   pub none_after : is_closed es ≡ true → pending t es ≡ []
   pub buffered : x ≡ None → r ≡ rest (stream (es ++ e ∷ []))
 
--- The outcomes of an event that is not the start of a poll: timeouts, responses by frame, and
--- losses.
+-- All outcomes that an event other than the start of a poll gives: first timeouts, then responses
+-- in the order of their frames, then losses.
 abbrev pub reported_at : ℕ → List Poll → List (List ℕ) → Option LostCause → List (ℕ × Settlement)
 reported_at m ps fs x = silences (filter (due m) ps) ++ by_frame fs (alive m ps) ++ losses x (unmatched fs (alive m ps))
 
@@ -81,7 +81,8 @@ last_moment-push [] e = refl
 last_moment-push (f ∷ []) e = refl
 last_moment-push (f ∷ g ∷ es) e = last_moment-push (g ∷ es) e
 
--- A session that has just reported an outcome of an event continues to process the same event.
+-- If a session that is processing an event reports one more outcome, then it is still processing
+-- the same event.
 pub tell : (t m n : ℕ) (r : List ℕ) (ps qs : List Poll) (x : Option LostCause) (es : List Event) (e : Event) (reported : List (ℕ × Settlement)) (taken : SettledPoll) (frame : Option (List ℕ)) → Mid t m n r ps x es e reported → ReportsOwed m x ps (Some taken) qs → Mid t m n r qs x es e (reported ++ reported_by taken frame ∷ [])
 tell t m n r ps qs x es e reported taken frame mid h =
     record {
@@ -102,7 +103,8 @@ pub some_case : (x : Option LostCause) → is_some x ≡ true → (c : LostCause
 some_case None h = absurd (cc)
 some_case (Some c) h = (c, refl)
 
--- A session without an outcome left to report has processed the event completely.
+-- If a session that is processing an event has no outcome left to report, then it has processed the
+-- event completely.
 pub done : (t m n w : ℕ) (r : Buffered) (ps qs : List Poll) (x : Option LostCause) (es : List Event) (e : Event) (reported : List (ℕ × Settlement)) → Mid t m n r.rest ps x es e reported → ReportsOwed m x ps None qs → Stands (record { timeout = t; window = w; last = m; next = n; reader = r; polls = qs; ending = x; settling = None }) (es ++ e ∷ []) × (reported ≡ outcomes_at t es e)
 done t m n w r ps qs x es e reported mid h = (
   record {
@@ -127,7 +129,8 @@ pub none_case : (x : Option LostCause) → is_some x ≡ false → x ≡ None
 none_case None h = refl
 none_case (Some c) h = absurd (cc)
 
--- A session that is already over has no pending poll, so it loses none at a later event.
+-- If a session is already over, it has no pending poll. A later end of the session thus loses no
+-- poll.
 ends_losses : (x y : Option LostCause) (ps : List Poll) → (is_some x ≡ true → ps ≡ []) → losses (option_or x y) ps ≡ losses y ps
 ends_losses None y ps h = refl
 ends_losses (Some c) y ps h = ap (losses (Some c)) (h refl) ∙ sym (ap (losses y) (h refl) ∙ losses-none y)
@@ -150,8 +153,8 @@ is_over-closed : (es : List Event) → is_closed es ≡ true → is_over es ≡ 
 unfolding is_over
 is_over-closed es h = or_right _ _ h
 
--- If an idle session gets an event without bytes, then it is processing this event, with no outcome
--- reported yet.
+-- Suppose that a session has processed all earlier events, and gets an event without bytes. Then it
+-- is processing this event, with no outcome reported yet.
 pub begin : (s : State) (es : List Event) (e : Event) → is_start e ≡ false → bytes_of e ≡ [] → Stands s es → Mid s.timeout (moment_of e) s.next s.reader.rest s.polls (option_or s.ending (closing_of e)) es e []
 begin s es e other none h =
     let m = moment_of e in
@@ -234,8 +237,8 @@ over_parts es m p =
 fresh_before : (one : OneReading) → (b p : List ℕ) → is_garbled (b ++ p) ≡ false → is_garbled b ≡ false
 fresh_before one b p h = false_from_ne_true _ (λ g. both_ways _ h (is_garbled-append one b p g))
 
--- After a session reads more bytes of a chunk, it is still processing the chunk. The bytes
--- completed at most one poll by a frame, and may have ended with an invalid length field.
+-- After a session reads more bytes of a chunk, the session is still processing the chunk. These
+-- bytes complete at most one poll by a frame, and can end with an invalid length field.
 pub feed : (one : OneReading) → (t m n : ℕ) (r q p : List ℕ) (buffered : Buffered) (ps qs : List Poll) (o : Option Poll) (es : List Event) (reported : List (ℕ × Settlement)) (g : Bool) → Mid t m n r ps None es (Piece m p) reported → owed_by m None ps ≡ [] → alive m ps ≡ ps → Finds r q ps o buffered qs → is_bad buffered.rest ≡ g → Mid t m n buffered.rest qs (garbled_end g) es (Piece m (p ++ q)) (reported ++ reported_list o buffered.frame)
 feed one t m n r q p buffered ps qs o es reported g mid none all found bad =
     let e = Piece m p in
@@ -300,8 +303,8 @@ ending_at-garbled : (es : List Event) (m : ℕ) (p q : List ℕ) → is_garbled 
 unfolding ending_at
 ending_at-garbled es m p q g h = ap (λ b. cond (b && not (is_garbled (stream es))) (Some Garbled) None) (h ∙ sym g)
 
--- More bytes of a chunk change no outcome of a poll after an invalid length field or a close of the
--- session.
+-- After an invalid length field or a close of the session, more bytes of a chunk change neither the
+-- outcomes nor the pending polls.
 same_at : (one : OneReading) → (t m : ℕ) (p q : List ℕ) (es : List Event) → (is_closed es ≡ true → pending t es ≡ []) → (is_garbled (stream es ++ p) || is_closed es) ≡ true → (outcomes_at t es (Piece m (p ++ q)) ≡ outcomes_at t es (Piece m p)) × (pending t (es ++ Piece m (p ++ q) ∷ []) ≡ pending t (es ++ Piece m p ∷ [])) × ((is_garbled (stream es ++ (p ++ q)) || is_closed es) ≡ true)
 same_at one t m p q es none over =
     let e = Piece m p in
@@ -356,7 +359,8 @@ goes_with : (x : Option LostCause) (es : List Event) (e : Event) → is_some x �
 goes_with None es e h = closing_none (is_closed es) (closing_of e) (or_parts _ _ (sym (unfold_over es e) ∙ sym h)).1
 goes_with (Some c) es e h = refl
 
--- A session that is about to process an event in a new or repeated call is processing that event.
+-- A call for an event begins, either the first call or a repeated one. The session has then
+-- reported some outcomes of the event and must report the others.
 pub enter : (s : State) (es : List Event) (e : Event) (reported : List (ℕ × Settlement)) → is_start e ≡ false → Before s es e reported → Mid s.timeout (moment_of e) s.next s.reader.rest s.polls (option_or s.ending (closing_of e)) es e reported
 enter s es e reported other (inl (stands, bare, none)) =
     let P : List (ℕ × Settlement) → Type 0 = λ y. Mid s.timeout (moment_of e) s.next s.reader.rest s.polls (option_or s.ending (closing_of e)) es e y in
@@ -381,8 +385,8 @@ pub reported_more : (t m n w : ℕ) (r : Buffered) (ps : List Poll) (x : Option 
 reported_more t m n w r ps x z es e reported mid =
     record { last = mid.last; next = mid.next; whole = mid.whole; polls = mid.polls; over = mid.over; none_after = mid.none_after; buffered = mid.buffered }
 
--- After a call that only reports outcomes already due, the session is in a state that `After` (the
--- state after a call) allows.
+-- If a call only reports outcomes that are already due, the session is afterwards in a state that
+-- `After` (the state after a call) allows.
 pub settle : (t m n w : ℕ) (r : Buffered) (ps qs : List Poll) (x : Option LostCause) (call : Call) (taken : Option SettledPoll) (es : List Event) (e : Event) (reported : List (ℕ × Settlement)) → call_of e ≡ Some call → Mid t m n r.rest ps x es e reported → ReportsOwed m x ps taken qs → After (record { timeout = t; window = w; last = m; next = n; reader = r; polls = qs; ending = x; settling = call_if taken call }) es e reported (reported_of taken r.frame)
 settle t m n w r ps qs x call None es e reported by mid h = done t m n w r ps qs x es e reported mid h
 settle t m n w r ps qs x call (Some taken) es e reported by mid h =
@@ -401,8 +405,8 @@ pub closes : (s : State) (m : ℕ) (c : Closing) (qs : List Poll) (taken : Optio
 closes s m c qs taken h es reported b =
     settle s.timeout m s.next s.window s.reader s.polls qs (option_or s.ending (Some (cause_of c))) (call.Close c) taken es (Close m c) reported refl (enter s es (Close m c) reported refl b) h
 
--- A session that is about to process a chunk of bytes in a new or repeated call is processing that
--- chunk.
+-- A call for a received chunk begins, either the first call or a repeated one. The session has then
+-- reported some outcomes of the chunk and must report the others.
 pub enters : (s : State) (m : ℕ) (p : List ℕ) (es : List Event) (reported : List (ℕ × Settlement)) → Before s es (Piece m p) reported → Mid s.timeout m s.next s.reader.rest s.polls s.ending es (Piece m p) reported
 enters s m p es reported b =
     let P : Option LostCause → Type 0 = λ y. Mid s.timeout m s.next s.reader.rest s.polls y es (Piece m p) reported in
@@ -442,8 +446,8 @@ piece_framed one s m n piece buffered qs rs poll g going h found bad clean es p 
     let mid' = subst P (ap garbled_end clean ∙ sym going) mid in
     (refl, reported_more s.timeout m s.next s.window buffered rs s.ending (Some call.Piece) es (Piece m (p ++ q)) (reported ++ reported_list (Some poll) buffered.frame) mid')
 
--- If no frame completed a poll, the call reports a timeout or loss that is now due, or the chunk is
--- processed completely.
+-- If no frame in a chunk completed a poll, then the call reports a timeout or a loss that is due.
+-- If none is due, the session has processed the chunk completely.
 pub piece_ended : (one : OneReading) → (s : State) (m n k : ℕ) (piece : List ℕ) (buffered : Buffered) (qs rs us : List Poll) (g : Bool) (x : Option LostCause) (lost : Option SettledPoll) → s.ending ≡ None → ReportsOwed m s.ending s.polls None qs → Finds s.reader.rest (take n piece) qs None buffered rs → is_bad buffered.rest ≡ g → x ≡ garbled_end g → ReportsOwed m x rs lost us → n ≤ length piece → (g ≡ false → n ≡ length piece) → k ≡ cond (is_some lost) n (length piece) → (es : List Event) (p : List ℕ) (reported : List (ℕ × Settlement)) → Before s es (Piece m p) reported → After (record { timeout = s.timeout; window = s.window; last = m; next = s.next; reader = buffered; polls = us; ending = x; settling = call_if lost call.Piece }) es (Piece m (p ++ take k piece)) reported (reported_of lost buffered.frame)
 piece_ended one s m n k piece buffered qs rs us g x (Some taken) going h found bad x_is owes within all k_is es p reported b =
     let q = take n piece in

@@ -40,8 +40,8 @@ starts s es m n u span poll h going poll_is =
       buffered = λ _. h.buffered going ∙ ap rest (sym (stream-same es e refl));
     }
 
--- If a session refuses to start a poll, then `least_fault` computes the fault from the session's
--- state. It is the fault that `start_fault` computes from the session's events.
+-- If a session refuses to start a poll, `least_fault` computes the fault from the session's state.
+-- The function `start_fault` computes the same fault from the earlier events.
 pub refused : (s : State) (es : List Event) (m : ℕ) (fault : Option StartFault) → fault ≡ least_fault s.window s.polls s.next s.last (is_some s.ending) m → Stands s es → fault ≡ start_fault s.timeout s.window es m
 refused s es m fault e h =
     e
@@ -50,7 +50,8 @@ refused s es m fault e h =
     ∙ ap (λ l. least_fault s.window (pending s.timeout es) (next_id es) l (is_some s.ending) m) h.last
     ∙ ap (λ o. least_fault s.window (pending s.timeout es) (next_id es) (last_moment es) o m) h.over
 
--- Polls with different identifiers still differ after one more poll with a free identifier.
+-- If all pending polls have different transaction identifiers, this is still true after a poll with
+-- an unused identifier is added.
 pub apart_push : (ps : List Poll) (p : Poll) → AreApart ps → filter (has_id p.id) ps ≡ [] → AreApart (ps ++ p ∷ [])
 apart_push ps p h free = λ id.
     let split : filter (has_id id) (ps ++ p ∷ []) ≡ filter (has_id id) ps ++ filter (has_id id) (p ∷ []) = filter-append (has_id id) ps (p ∷ []) in

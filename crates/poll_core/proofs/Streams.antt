@@ -56,7 +56,7 @@ bad-append r q (six, ways) =
     let same : span_of (r ++ q) ≡ span_of r = span_of-append r q six in
     (omega arith, elim ways [ inl low ↦ inl (omega arith) | inr high ↦ inr (omega arith) ])
 
--- More bytes after a stream with an invalid length field complete no frame.
+-- If a stream has an invalid length field, then appending more bytes completes no further frame.
 garbled_reads : (one : OneReading) → (b q : List ℕ) → is_garbled b ≡ true → Reads (b ++ q) (frames b) (rest b ++ q)
 unfolding is_garbled
 garbled_reads one b q g =
@@ -77,8 +77,8 @@ is_garbled-append one b q g =
     let bad : IsBad (rest b ++ q) = bad-append (rest b) q (bad_is (rest b) g) in
     ap is_bad (one.only (b ++ q) (frames b) (rest b ++ q) h).1 ∙ is_bad-bad _ bad
 
--- Suppose that the bytes after a stream's complete frames form the frames `gs` together with new
--- bytes. Then the longer stream has its earlier frames followed by `gs`.
+-- Suppose that the bytes after a stream's complete frames, together with new bytes, form the frames
+-- `gs`. Then the longer stream has the earlier frames, followed by `gs`.
 pub reads_on : (one : OneReading) → (b q : List ℕ) (gs : List (List ℕ)) (s : List ℕ) → Reads (rest b ++ q) gs s → Reads (b ++ q) (frames b ++ gs) s
 reads_on one b q gs s g =
     let h = one.exists b in
@@ -109,7 +109,7 @@ pub stream-push : (es : List Event) (e : Event) → stream (es ++ e ∷ []) ≡ 
 unfolding stream
 stream-push es e = flat_map-append bytes_of es (e ∷ []) ∙ ap (λ y. flat_map bytes_of es ++ y) (append-nil (bytes_of e))
 
--- The frames of a longer chunk are those of its beginning, followed by those that the remaining
+-- If a chunk gets longer, its frames are the earlier frames, followed by the frames that the added
 -- bytes complete.
 pub frames_at-more : (one : OneReading) → (es : List Event) (m : ℕ) (p q : List ℕ) (gs : List (List ℕ)) (r : List ℕ) → Reads ((stream es ++ p) ++ q) (frames (stream es ++ p) ++ gs) r → frames_at es (Piece m (p ++ q)) ≡ frames_at es (Piece m p) ++ gs
 unfolding frames_at

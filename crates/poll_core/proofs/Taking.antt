@@ -27,7 +27,8 @@ apart_out xs ys i e h = λ id.
     let m : length (filter (has_id id) ys) ≡ length (filter (has_id id) (remove xs i)) = ap (λ zs. length (filter (has_id id) zs)) e in
     omega (arith, h id)
 
--- If no element passes a test, the filter by the opposite test drops nothing.
+-- If no element of a list passes a test, then filtering the list by the opposite test drops
+-- nothing.
 pub none_passes : {X : Type 0} (t : X → Bool) (xs : List X) → filter t xs ≡ [] → filter (λ x. not (t x)) xs ≡ xs
 none_passes t [] h = refl
 none_passes t (x ∷ xs) h =

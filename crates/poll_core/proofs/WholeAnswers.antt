@@ -22,7 +22,8 @@ length-words_of (high ∷ []) n h = absurd (omega arith)
 length-words_of (high ∷ low ∷ bytes) zero h = absurd (omega arith)
 length-words_of (high ∷ low ∷ bytes) (suc n) h = ap suc (length-words_of bytes n (omega arith))
 
--- A response without a fault that is no exception has the registers that its byte count requires.
+-- If a response has no fault and is no exception, then it has as many registers as its byte count
+-- requires.
 no_fault : (wrong_function wrong_length wrong_count wrong_echo exception : Bool) (code count : ℕ) (ws words : List ℕ)
     → (exception ≡ false → wrong_length ≡ false → wrong_count ≡ false → length ws ≡ count)
     → by_reply (value_unless (cond wrong_function (Some WrongFunction) (cond wrong_length (Some WrongLength) (cond wrong_count (Some WrongByteCount) (cond wrong_echo (Some WrongEcho) None)))) (cond exception (replies.Exception code) (replies.Words ws))) ≡ Answered words
@@ -48,7 +49,8 @@ plain_count : (exception b : Bool) → exception ≡ false → (not exception &&
 plain_count true b x h = absurd (cc)
 plain_count false b x h = not_is b h
 
--- The number of registers in a PDU follows from its length and byte count.
+-- If the byte count of a PDU is twice `count` and matches the PDU's length, then the PDU has
+-- `count` registers.
 as_many : (pdu : List ℕ) (count given : ℕ) → length pdu ≡ 2 + given → given ≡ 2 * count → length (words_of (drop 2 pdu)) ≡ count
 as_many pdu count given all h =
     let following : length (drop 2 pdu) ≡ 2 * count = omega (arith, length-drop 2 pdu) in

@@ -15,7 +15,7 @@ use Rattle.poll_core.specs.declared.inner.Step.{Step}
 use Rattle.poll_core.specs.declared.outcome.LostCause.{LostCause}
 use Rattle.poll_core.specs.declared.outcome.LostCause.TheVariants.{Garbled}
 
--- The model of a session whose private fields are `s`.
+-- The model of a session with the given private fields.
 abbrev pub state_of : Inner → State
 state_of s = record {
   timeout = s.timeout;
@@ -28,16 +28,17 @@ state_of s = record {
   settling = s.settling;
 }
 
--- The invariant of a session's fields: the window and the timeout are within their limits, at most
--- `window` polls are pending, and their transaction identifiers differ.
+-- The invariant of a session's fields. The window (the greatest number of pending polls) and the
+-- timeout are within their limits. At most `window` polls are pending, and their transaction
+-- identifiers differ.
 pub record IsSound (s : Inner) : Type 0 where
   pub window : s.window ≤ MAX_WINDOW
   pub timeout : s.timeout ≤ MAX_TIMEOUT
   pub room : length s.polls.items ≤ s.window
   pub apart : AreApart s.polls.items
 
--- The number and the outcome of a poll that was removed from the pending polls, if there is one.
--- `frame` is the frame in the session's reader.
+-- The poll number and the outcome of a poll that was removed from the pending polls, or `None` if
+-- no poll was removed. The byte list is the frame in the session's reader.
 abbrev pub reported_of : Option SettledPoll → Option (List ℕ) → Option (ℕ × Settlement)
 reported_of taken frame = option_map (λ t. reported_by t frame) taken
 
@@ -52,8 +53,8 @@ ReportsStep old new moment piece step =
 abbrev pub ReportsTaken : State → State → Event → Option SettledPoll → Type 0
 ReportsTaken old new event taken = ReportsEvent old new event (reported_of taken new.reader.frame)
 
--- The kind of call that must be repeated for further outcomes: `call` if the call just reported the
--- poll `taken`, or `None` if it reported none. Each call reports at most one outcome.
+-- The kind of call that must be repeated for further outcomes: the given kind if the call just
+-- reported a completed poll, otherwise `None`. Each call reports at most one outcome.
 abbrev pub call_if : Option SettledPoll → Call → Option Call
 call_if None call = None
 call_if (Some taken) call = Some call

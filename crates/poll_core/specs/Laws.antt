@@ -10,21 +10,23 @@ use Rattle.poll_core.specs.Settling.{Event, Start, Piece, Tick, Close, Settlemen
 use Rattle.poll_core.specs.Standing.{is_over, last_moment}
 use Rattle.poll_core.specs.Starting.{start_fault}
 
--- The number and outcome of a started poll, or `None` if the poll has no outcome.
+-- The poll number and the outcome of a started poll, or `None` if the poll has no outcome.
 abbrev pub with_outcome : Poll × Option Settlement → Option (ℕ × Settlement)
 with_outcome result = option_map (λ outcome. (result.0.number, outcome)) result.1
 
--- The number and outcome of each started poll that has an outcome, in the order of the starts.
+-- The poll number and the outcome of each started poll that has an outcome, in the order of the
+-- starts.
 abbrev pub outcomes_by_poll : ℕ → List Event → List (ℕ × Settlement)
 outcomes_by_poll timeout events = filter_map with_outcome (results timeout [] events)
 
--- The outcomes of polls that the later events give after the events `before`, event by event.
+-- The outcomes of polls that the second list of events causes after the events of the first list,
+-- in the order of the events.
 abbrev pub outcomes_after : ℕ → List Event → List Event → List (ℕ × Settlement)
 outcomes_after timeout before [] = []
 outcomes_after timeout before (event ∷ later) =
     outcomes_at timeout before event ++ outcomes_after timeout (before ++ event ∷ []) later
 
--- The outcomes of polls that all events give, event by event.
+-- The outcomes of polls that a list of events causes, in the order of the events.
 abbrev pub outcomes_by_event : ℕ → List Event → List (ℕ × Settlement)
 outcomes_by_event timeout events = outcomes_after timeout [] events
 
@@ -47,7 +49,7 @@ numbers_settled timeout events = map (λ reported. reported.0) (outcomes_by_even
 abbrev pub numbers_pending : ℕ → List Event → List ℕ
 numbers_pending timeout events = map (λ poll. poll.number) (pending timeout events)
 
--- The numbers and outcomes of the polls in `polls` that the event completes.
+-- The poll numbers and outcomes of those polls of a list that the event completes.
 abbrev pub settled_among : List Event → Event → List Poll → List (ℕ × Settlement)
 settled_among before event polls =
     filter_map (λ poll.
@@ -58,7 +60,8 @@ settled_among before event polls =
 abbrev pub with_event : List Event → Event → Poll × Option Settlement → Poll × Option Settlement
 with_event before event result = (result.0, option_or result.1 (settled_by before event result.0))
 
--- The poll that an event started, without an outcome, or an empty list if the event started none.
+-- A list with the poll that an event started, without an outcome, or an empty list if the event
+-- started none.
 abbrev pub new_result : Option Poll → List (Poll × Option Settlement)
 new_result None = []
 new_result (Some poll) = (poll, None) ∷ []
@@ -72,8 +75,8 @@ pub record Waits (timeout : ℕ) (events : List Event) (poll : Poll) : Type 0 wh
   pub starts : started timeout before start ≡ Some poll
   pub unsettled : outcome (before ++ start ∷ []) later poll ≡ None
 
--- True if a session that processed the events `before` accepts this event: its time is not earlier,
--- and a start is not refused.
+-- True if a session that processed the earlier events accepts this event: the event is not earlier
+-- than the latest time, and is not a start that the session refuses.
 abbrev pub Accepts : ℕ → ℕ → List Event → Event → Type 0
 Accepts timeout window before (Start moment poll unit span) =
     start_fault timeout window before moment ≡ None
@@ -81,13 +84,14 @@ Accepts timeout window before (Piece moment bytes) = last_moment before ≤ mome
 Accepts timeout window before (Tick moment) = last_moment before ≤ moment
 Accepts timeout window before (Close moment closing) = last_moment before ≤ moment
 
--- True if a session that processed the events `before` accepts each further event in order.
+-- True if a session that processed the earlier events accepts each further event in order.
 abbrev pub AcceptsAll : ℕ → ℕ → List Event → List Event → Type 0
 AcceptsAll timeout window before [] = Unit {0}
 AcceptsAll timeout window before (event ∷ later) =
     Accepts timeout window before event × AcceptsAll timeout window (before ++ event ∷ []) later
 
--- True if each started poll is either completed by the events or pending, exactly once.
+-- True if each started poll occurs exactly once among the polls that the events complete and the
+-- pending polls together.
 abbrev pub SettledOrPending : ℕ → List Event → Type 0
 SettledOrPending timeout events =
     IsPermutation (numbers_started events)
@@ -100,15 +104,15 @@ AddsOutcomes timeout events event =
     outcomes_by_event timeout (events ++ event ∷ [])
     ≡ outcomes_by_event timeout events ++ outcomes_at timeout events event
 
--- True if one more event completes pending polls independently of each other, and completes no
--- other poll.
+-- True if an event completes each pending poll independently of the other polls, and completes no
+-- poll that is not pending.
 abbrev pub SettlesPending : ℕ → List Event → Event → Type 0
 SettlesPending timeout events event =
     IsPermutation (settled_among events event (pending timeout events))
     (outcomes_at timeout events event)
 
--- True if the polls pending after one more event are those that it does not complete, followed by
--- the poll that it starts.
+-- True if the polls pending after one more event are those earlier ones that it does not complete,
+-- followed by the poll that it starts.
 abbrev pub LeavesPending : ℕ → List Event → Event → Type 0
 LeavesPending timeout events event =
     pending timeout (events ++ event ∷ [])
@@ -123,14 +127,14 @@ AddsResults timeout events event =
     ≡ map (with_event events event) (results timeout [] events)
     ++ new_result (started timeout events event)
 
--- True if a session that accepted these events is over: an invalid length field arrived, or the
--- session was closed.
+-- True if a session accepts all of these events and is over after them, because of an invalid
+-- length field or because it was closed.
 abbrev pub IsOverAfter : (timeout window : ℕ) → List Event → Type 0
 IsOverAfter timeout window events =
     AcceptsAll timeout window [] events × (is_over events ≡ true)
 
--- True if a chunk of bytes completes no poll whenever a longer chunk with the same beginning
--- completes none.
+-- States that, if a longer chunk with the same beginning completes no poll, then this chunk
+-- completes no poll.
 abbrev pub SettlesNoLess : ℕ → List Event → (moment : ℕ) → (piece more : List ℕ) → Type 0
 SettlesNoLess timeout events moment piece more =
     outcomes_at timeout events (Piece moment (piece ++ more)) ≡ []

@@ -1,4 +1,4 @@
--- The numbers under which the program prints the outcomes of polls and their causes.
+-- The numeric codes under which the program prints the outcomes of polls and their causes.
 use Rattle.std.specs.Prelude.{ℕ}
 use Rattle.mb_wire.specs.declared.replies.ReplyFault.{ReplyFault}
 use Rattle.mb_wire.specs.declared.replies.ReplyFault.TheVariants as fault
@@ -11,7 +11,7 @@ use Rattle.poll_core.specs.declared.outcome.LostCause.TheVariants as cause
 use Rattle.poll_core.specs.declared.outcome.Closing.{Closing}
 use Rattle.poll_core.specs.declared.outcome.Closing.TheVariants as closing
 
--- The number of each kind of malformed response.
+-- The numeric code of each kind of malformed response.
 abbrev pub malformation_number : Malformation → ℕ
 malformation_number malformation.WrongFunction = 1
 malformation_number malformation.WrongLength = 2
@@ -19,14 +19,14 @@ malformation_number malformation.WrongByteCount = 3
 malformation_number malformation.WrongEcho = 4
 malformation_number malformation.WrongUnit = 5
 
--- The number of each cause of a lost poll.
+-- The numeric code of each cause of a lost poll.
 abbrev pub cause_number : LostCause → ℕ
 cause_number cause.Gone = 1
 cause_number cause.Garbled = 2
 cause_number cause.Failed = 3
 cause_number cause.Restart = 4
 
--- The number of each kind of a poll's outcome.
+-- The numeric code of each kind of a poll's outcome.
 abbrev pub outcome_number : Outcome → ℕ
 outcome_number Answered = 1
 outcome_number (Exception code) = 2
@@ -34,8 +34,8 @@ outcome_number Silent = 3
 outcome_number (Malformed wrong) = 4
 outcome_number (Lost why) = 5
 
--- The second number that is printed for a poll's outcome: its exception code, or the number of its
--- malformation or cause. Other outcomes have 0.
+-- The second numeric code that is printed for a poll's outcome: the exception code, or the code of
+-- the malformation or of the cause of the loss. Other outcomes have 0.
 abbrev pub outcome_code : Outcome → ℕ
 outcome_code Answered = 0
 outcome_code (Exception code) = code

@@ -16,10 +16,10 @@ abbrev pub poll_of : (number id unit : ℕ) → Span → (deadline : ℕ) → Po
 poll_of number id unit span deadline =
     record { number = number; id = id; unit = unit; span = span; deadline = deadline }
 
--- True if the deadline of the poll is at or before the time `moment`.
+-- True if the deadline of the poll is at or before the given time.
 abbrev pub due : ℕ → Poll → Bool
 due moment poll = nat_le poll.deadline moment
 
--- True if the poll has the transaction identifier `id`.
+-- True if the poll has the given transaction identifier.
 abbrev pub has_id : ℕ → Poll → Bool
 has_id id poll = id == poll.id

@@ -27,7 +27,7 @@ outcome_of Silent reply = reported.Silent
 outcome_of (Malformed malformation) reply = reported.Malformed malformation
 outcome_of (Lost cause) reply = reported.Lost cause
 
--- The number and the outcome of a completed poll.
+-- The poll number and the outcome of a completed poll.
 abbrev pub settled_of : Settled → ℕ × Settlement
 settled_of settled = (settled.poll, outcome_of settled.outcome settled.reply)
 
@@ -40,15 +40,16 @@ is_answered _ = false
 abbrev pub LendsReply : Settled → Type 0
 LendsReply settled = is_some settled.reply ≡ is_answered settled.outcome
 
--- True if no call is in progress, or the call in progress is of this kind and at this time. A call
--- is in progress while it must be repeated, because each call reports at most one outcome.
+-- True if no call is in progress, or if the call in progress is of this kind and at this time. A
+-- call that reported an outcome stays in progress, because the caller must repeat it for further
+-- outcomes.
 abbrev pub IsCall : Call → State → ℕ → Type 0
 IsCall call session moment =
     (session.settling ≡ None) ⊎ ((session.settling ≡ Some call) × (session.last ≡ moment))
 
--- The effect on a session of a call that processes an event, or more bytes of a chunk. From the
--- bytes consumed earlier, `before` builds the event before the call, and `after` the event after
--- it.
+-- The effect on a session of a call that processes an event or more bytes of a chunk. The arguments
+-- `before` and `after` are functions of the chunk's bytes that earlier calls consumed. They return
+-- the event as processed before and after this call.
 --
 -- If the call reports an outcome, fewer polls are pending.
 pub record ReportsOfCall (old new : State) (before after : List ℕ → Event)
@@ -61,8 +62,8 @@ pub record ReportsOfCall (old new : State) (before after : List ℕ → Event)
   pub reported : (events : List Event) (bytes : List ℕ) (reported : List (ℕ × Settlement))
       → Before old events (before bytes) reported → After new events (after bytes) reported settled
 
--- The effect on a session of a call of `next` (which processes received bytes) at the time
--- `moment`. The call consumes the bytes `taken` of a chunk.
+-- The effect on a session of a call of `next` (which processes received bytes) at the given time.
+-- `taken` has the bytes that the call consumes.
 abbrev pub ReportsPiece : State → State → ℕ → List ℕ → Option (ℕ × Settlement) → Type 0
 ReportsPiece old new moment taken =
     ReportsOfCall old new (λ bytes. Piece moment bytes) (λ bytes. Piece moment (bytes ++ taken))

@@ -94,7 +94,7 @@ answer poll frame =
 abbrev pub is_for : Poll → List ℕ → Bool
 is_for poll frame = (tid_of frame == poll.id) && (protocol_of frame == 0)
 
--- The frames that the bytes of the event complete, after the bytes of the events `before`.
+-- The frames that the bytes of the event complete, after the bytes of the earlier events.
 unfoldable pub frames_at : List Event → Event → List (List ℕ)
 frames_at before event =
     drop (length (frames (stream before))) (frames (stream before ++ bytes_of event))
@@ -107,9 +107,8 @@ ending_at before event =
     then Some Garbled
     else closing_of event
 
--- The outcome of a pending poll by an event after the events `before`: timeout first, then the
--- first frame with its transaction identifier, then loss. `None` if the event does not complete the
--- poll.
+-- The outcome of a pending poll by an event after the earlier events: timeout first, then the first
+-- frame with its transaction identifier, then loss. `None` if the event does not complete the poll.
 unfoldable pub settled_by : List Event → Event → Poll → Option Settlement
 settled_by before event poll =
     if is_start event then None
@@ -124,7 +123,7 @@ outcome before [] poll = None
 outcome before (event ∷ later) poll =
     option_or (settled_by before event poll) (outcome (before ++ event ∷ []) later poll)
 
--- The poll that the event starts after the events `before`, or `None` if the event is no start.
+-- The poll that the event starts after the earlier events, or `None` if the event is no start.
 abbrev pub started : ℕ → List Event → Event → Option Poll
 started timeout before (Start moment poll unit span) =
     Some (record {
@@ -138,8 +137,8 @@ started timeout before (Piece moment bytes) = None
 started timeout before (Tick moment) = None
 started timeout before (Close moment closing) = None
 
--- The poll that an event started, with its outcome by the later events. An empty list if the event
--- started none.
+-- A list with the poll that an event started and the poll's outcome by the later events. The list
+-- is empty if the event started no poll.
 abbrev pub result_of : List Event → List Event → Option Poll → List (Poll × Option Settlement)
 result_of before later None = []
 result_of before later (Some poll) = (poll, outcome before later poll) ∷ []
@@ -178,12 +177,12 @@ abbrev pub losses : Option LostCause → List Poll → List (ℕ × Settlement)
 losses None polls = []
 losses (Some cause) polls = map (λ poll. (poll.number, Lost cause)) polls
 
--- The polls of the list whose deadline is after the time `moment`.
+-- The polls of the list whose deadline is after the given time.
 abbrev pub alive : ℕ → List Poll → List Poll
 alive moment polls = filter (λ poll. not (due moment poll)) polls
 
--- The outcomes of one event, in order: timeouts by start, then responses frame by frame, then
--- losses by start.
+-- The outcomes of one event: timeouts in the order of the starts, then responses in the order of
+-- the frames, then losses in the order of the starts.
 unfoldable pub outcomes_at : ℕ → List Event → Event → List (ℕ × Settlement)
 outcomes_at timeout before event =
     if is_start event then []

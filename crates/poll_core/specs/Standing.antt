@@ -11,9 +11,9 @@ use Rattle.poll_core.specs.declared.outcome.LostCause.{LostCause}
 use Rattle.poll_core.specs.declared.outcome.Call.{Call}
 use Rattle.poll_core.specs.declared.outcome.Call.TheVariants as call
 
--- The state of a session: its timeout and window, its latest time, its next transaction identifier,
--- its incomplete frame, and its pending polls in the order of their starts. Also the cause of its
--- end and the call in progress, if any.
+-- The state of a session: its timeout and window, latest time, next transaction identifier and
+-- incomplete frame. Also its pending polls in the order of their starts, the cause for which it
+-- ended, and the call in progress, if any.
 pub record State : Type 0 where
   pub timeout : ℕ
   pub window : ℕ
@@ -67,8 +67,8 @@ abbrev pub if_going : Option LostCause → List Poll → List Poll
 if_going None polls = polls
 if_going (Some cause) polls = []
 
--- True if the session is processing the event after the events `events`. It has reported the
--- outcomes `reported` of the event, and must still report the others.
+-- True if the session is processing the event after the events `events`. The session has reported
+-- the given outcomes of the event, and must still report the others.
 pub record Within (session : State) (events : List Event) (event : Event)
     (reported : List (ℕ × Settlement)) : Type 0 where
   pub last : session.last ≡ moment_of event
@@ -88,7 +88,7 @@ call_of (Tick moment) = Some call.Tick
 call_of (Close moment closing) = Some (call.Close closing)
 
 -- The state of a session before a call for this event. Either the event is new, or the session
--- continues the event after it has reported the outcomes `reported`.
+-- continues the event after it has reported the given outcomes.
 abbrev pub Before : State → List Event → Event → List (ℕ × Settlement) → Type 0
 Before session events event reported =
     (Stands session events × (bytes_of event ≡ []) × (reported ≡ []))
@@ -103,21 +103,21 @@ After session events event reported None =
 After session events event reported (Some settled) =
     (session.settling ≡ call_of event) × Within session events event (reported ++ settled ∷ [])
 
--- True if, after a successful call of `start`, the session has processed its earlier events and the
--- start of the poll.
+-- States that, if a call of `start` succeeds, the session has then processed its earlier events and
+-- the start of the poll.
 abbrev pub StartsOn : {X E : Type 0} → Result X E → (old new : State) → Event → Type 0
 StartsOn result old new start =
     (events : List Event) → Stands old events → OnOk result (After new events start [] None)
 
--- True if the call for the event leads from each state that is possible before it to a state that
--- is possible after it.
+-- States that, if the session's old state is possible before a call for the event (`Before`), its
+-- new state is possible after the call (`After`).
 abbrev pub StepsOn : (old new : State) → Event → Option (ℕ × Settlement) → Type 0
 StepsOn old new event settled =
     (events : List Event) (reported : List (ℕ × Settlement)) →
     Before old events event reported → After new events event reported settled
 
--- True if a call that consumes bytes of a received chunk leads from each state possible before it
--- to a state possible after it.
+-- The effect of a call that consumes bytes of a chunk. If the old state is possible before the call
+-- (`Before`), then the new state is possible after the call (`After`).
 abbrev pub TakesOn : (old new : State) → (moment : ℕ) → (taken : List ℕ)
     → Option (ℕ × Settlement) → Type 0
 TakesOn old new moment taken settled =

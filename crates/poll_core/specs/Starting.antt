@@ -11,16 +11,16 @@ use Rattle.poll_core.specs.Standing.{State, is_over, last_moment}
 use Rattle.poll_core.specs.declared.answers.StartFault.{StartFault}
 use Rattle.poll_core.specs.declared.answers.StartFault.TheVariants.{WindowFull, IdBusy, ClockBack, Closed}
 
--- The number of each fault for which a session refuses to start a poll.
+-- The numeric code of each fault for which a session refuses to start a poll.
 abbrev pub start_fault_number : StartFault → ℕ
 start_fault_number WindowFull = 1
 start_fault_number IdBusy = 2
 start_fault_number ClockBack = 3
 start_fault_number Closed = 4
 
--- The first fault for which a session refuses to start a poll at the time `moment`, or `None`.
--- `next` is the transaction identifier, `last` the latest time, and `over` is true if the session
--- is over.
+-- The first fault for which a session refuses to start a poll, or `None`. The arguments are the
+-- window, the pending polls, the next identifier, the latest time, whether the session is over, and
+-- the time of the start.
 abbrev pub least_fault : ℕ → List Poll → ℕ → ℕ → Bool → ℕ → Option StartFault
 least_fault window polls next last over moment =
     if nat_le window (length polls) then Some WindowFull
@@ -29,7 +29,7 @@ least_fault window polls next last over moment =
     else if over then Some Closed
     else None
 
--- The fault for which a session refuses to start a poll at the time `moment` after these events, or
+-- The fault for which a session refuses to start a poll at the given time after these events, or
 -- `None` if it accepts the start.
 abbrev pub start_fault : ℕ → ℕ → List Event → ℕ → Option StartFault
 start_fault timeout window events moment =
@@ -37,21 +37,21 @@ start_fault timeout window events moment =
     (is_over events)
     moment
 
--- True if the first `n` bytes of the buffer are the frame that requests this span of registers from
--- the unit.
+-- True if the first `n` bytes of the buffer (the last argument) are the frame that requests this
+-- span of registers from the unit.
 abbrev pub AsksFor : (tid unit : ℕ) → Span → (buffer : List ℕ) → ℕ → Type 0
 AsksFor tid unit span buffer n =
     take n buffer ≡ spelling tid unit (request_bytes (request_of span))
 
--- True if one more start of a poll would succeed after `before` successful starts from now. The
--- session must not be over, the window must have room, and no pending poll may use the start's
+-- True if one more start of a poll would succeed after the given number of further starts. The
+-- session must not be over, the window must have room, and no pending poll may use this start's
 -- identifier.
 abbrev pub start_fits : ℕ → List Poll → ℕ → Bool → ℕ → Bool
 start_fits window polls next over before =
     not over && nat_lt (length polls + before) window
     && not (list_any (has_id ((next + before) % 65536)) polls)
 
--- True if exactly `count` consecutive starts of polls are possible.
+-- True if exactly `count` consecutive starts of polls would now succeed.
 pub record HasRoom (session : State) (count : ℕ) : Type 0 where
   pub fit : (k : ℕ) → k < count
       → start_fits session.window session.polls session.next (is_some session.ending) k ≡ true

@@ -17,8 +17,8 @@ use Rattle.poll_core.specs.declared.poll.SettledPoll.{SettledPoll}
 abbrev pub AreApart : List Poll → Type 0
 AreApart polls = (id : ℕ) → length (filter (has_id id) polls) ≤ 1
 
--- True if the result is the index of the first poll that passes the test, or `None` and no poll
--- passes.
+-- True if the result is the index of the first poll that passes the test, or is `None` because no
+-- poll passes.
 abbrev pub FindsFirst : (Poll → Bool) → List Poll → Option ℕ → Type 0
 FindsFirst test polls None = filter test polls ≡ []
 FindsFirst test polls (Some i) =
@@ -34,8 +34,8 @@ TakesOut test old (Some poll) new =
     × (filter (λ p. not (test p)) new ≡ filter (λ p. not (test p)) old)
     × (length old ≡ suc (length new))
 
--- The outcome of a removed poll, by the kind of event that completed it. `frame` is the frame in
--- the session's reader.
+-- The outcome of a removed poll, by the kind of event that completed it. The byte list is the frame
+-- in the session's reader.
 abbrev pub outcome_by : Poll → SettledBy → Option (List ℕ) → Settlement
 outcome_by poll by.Silence frame = Silent
 outcome_by poll by.Frame frame = answer poll (unwrap_or frame [])
@@ -48,18 +48,19 @@ HasFrame by.Silence frame = Unit {0}
 HasFrame by.Frame frame = IsSome frame
 HasFrame (by.End cause) frame = Unit {0}
 
--- True if the outcome of the removed poll, if any, can be computed. The session's reader must have
--- the frame if a frame completed the poll.
+-- True if the outcome of the removed poll can be computed, or if no poll was removed. If a frame
+-- completed the poll, the session's reader must still have this frame.
 abbrev pub CanTell : Option SettledPoll → Option (List ℕ) → Type 0
 CanTell None frame = Unit {0}
 CanTell (Some taken) frame = HasFrame taken.by frame
 
--- The number and outcome of a removed poll. `frame` is the frame in the session's reader.
+-- The poll number and the outcome of a removed poll. The byte list is the frame in the session's
+-- reader.
 abbrev pub reported_by : SettledPoll → Option (List ℕ) → ℕ × Settlement
 reported_by taken frame = (taken.poll.number, outcome_by taken.poll taken.by frame)
 
--- True if the session reported the next timeout or loss that is due, and removed its poll. If none
--- was due, nothing changes.
+-- True if the session reported the next timeout or loss that is due, and removed the poll. If no
+-- timeout or loss was due, nothing changed.
 abbrev pub ReportsOwed : ℕ → Option LostCause → List Poll → Option SettledPoll → List Poll → Type 0
 ReportsOwed moment ending old None new =
     (new ≡ old) × (owed_by moment ending old ≡ []) × (alive moment old ≡ old)
@@ -70,20 +71,20 @@ ReportsOwed moment ending old (Some taken) new =
     × (if_going ending (alive moment new) ≡ if_going ending (alive moment old))
     × (length old ≡ suc (length new))
 
--- True if the chunk completes the frames `ended`, whatever stream came before it. `old` and `new`
--- are the bytes of the incomplete frame before and after the chunk.
+-- True if the chunk (the second list) completes the given frames after every stream that ends with
+-- the incomplete frame in the first list. The last list is the incomplete frame after the chunk.
 abbrev pub FeedsOn : List ℕ → List ℕ → List (List ℕ) → List ℕ → Type 0
 FeedsOn old piece ended new = (bytes : List ℕ) (before : List (List ℕ)) → Reads bytes before old
     → Reads (bytes ++ piece) (before ++ ended) new
 
--- The number and outcome of the poll that the frame in the reader completed, or an empty list if it
--- completed none.
+-- The poll number and the outcome of the poll that the frame in the reader completed, or an empty
+-- list if it completed none.
 abbrev pub reported_list : Option Poll → Option (List ℕ) → List (ℕ × Settlement)
 reported_list None frame = []
 reported_list (Some poll) frame = (poll.number, outcome_by poll by.Frame frame) ∷ []
 
--- True if only the last of the completed frames may have the identifier of a pending poll. That
--- poll was removed, and its frame is in the reader.
+-- True if only the last of the frames that the chunk completes can have a pending poll's
+-- identifier. If it has one, this poll was removed, and the frame is in the reader.
 pub record Finds (old piece : List ℕ) (polls : List Poll) (found : Option Poll)
     (buffered : Buffered) (others : List Poll) : Type 0 where
   pub ended : List (List ℕ)
@@ -91,12 +92,13 @@ pub record Finds (old piece : List ℕ) (polls : List Poll) (found : Option Poll
   pub reported : by_frame ended polls ≡ reported_list found buffered.frame
   pub others_are : unmatched ended polls ≡ others
 
--- True if the complete frame completes at most one poll, and that poll was removed from the list.
+-- True if the frame completes the given poll, and this poll was removed from the list. Without a
+-- given poll, the frame completes no poll, and the list is unchanged.
 abbrev pub FindsBy : List ℕ → List Poll → Option Poll → List Poll → Type 0
 FindsBy frame old found new =
     (by_frame (frame ∷ []) old ≡ reported_list found (Some frame)) × (unmatched (frame ∷ []) old ≡ new)
 
--- True if the list has one poll less when a poll was removed, and is unchanged otherwise.
+-- True if the list is one poll shorter when a poll was removed, and is unchanged otherwise.
 abbrev pub OneLess : List Poll → Option Poll → List Poll → Type 0
 OneLess old None new = new ≡ old
 OneLess old (Some poll) new = length old ≡ suc (length new)

@@ -40,7 +40,7 @@ pub enum StartFault {
     IdBusy,
     /// The time of the call is before the latest time of the session.
     ClockBack,
-    /// The session was closed, or an invalid length field garbled its stream.
+    /// The session was closed, or received an invalid length field.
     Closed,
 }
 
@@ -48,8 +48,8 @@ impl StartFault {
     ghost use Rattle.std.specs.Prelude.{◌≡◌};
     ghost use Rattle.poll_core.specs.Starting.{start_fault_number};
 
-    /// Returns the fault's number, 1 to 4. If several faults apply, the fault with the lowest
-    /// number is reported.
+    /// Returns the fault's numeric code, 1 to 4. If several faults apply, the fault with the lowest
+    /// code is reported.
     pub fn number(self) -> u8
         ensures { result ≡ start_fault_number self }
     {

@@ -76,8 +76,8 @@ fn ending_if(is_garbled: bool) -> Option<LostCause>
     }
 }
 
-// Returns the number of bytes that the call consumes. After a reported outcome the caller passes
-// the bytes after the first `taken` again. Without an outcome, all bytes count as consumed.
+// Returns the number of bytes that a call consumes: `taken` if it reports an outcome, because the
+// caller then passes the later bytes again. Otherwise all bytes count as consumed.
 fn taken_if(lost: &Option<SettledPoll>, taken: usize, all: usize) -> usize
     ensures { result ≡ (if is_some lost.now then taken else all) }
 {

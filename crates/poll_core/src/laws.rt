@@ -13,7 +13,7 @@ ghost use Rattle.poll_core.specs.Laws.{outcomes_by_event, outcomes_by_poll};
 use mb_wire::one_reading;
 
 /// Theorem: each started poll is completed once or is pending. The outcomes listed event by event
-/// equal the outcomes listed poll by poll.
+/// are those listed poll by poll, possibly in another order.
 pub fn each_once()
     ensures polls { (timeout : ℕ) (events : List Event) → SettledOrPending timeout events }
     ensures outcomes { (timeout : ℕ) (events : List Event) →
@@ -41,8 +41,8 @@ pub fn pending_waits()
         → All (Waits timeout events) (pending timeout events) }
 {}
 
-/// Theorem: after an invalid length field garbled its stream, or after it was closed, a session has
-/// no pending polls, and no event completes a poll.
+/// Theorem: after a session received an invalid length field or was closed, the session has no
+/// pending polls, and no event completes a poll.
 pub fn over_for_good()
     ensures nobody { (timeout window : ℕ) (events : List Event) →
         IsOverAfter timeout window events → pending timeout events ≡ [] }

@@ -65,7 +65,7 @@ impl Outcome {
     ghost use Rattle.std.specs.Prelude.{◌≡◌};
     ghost use Rattle.poll_core.specs.Outcomes.{outcome_number, outcome_code};
 
-    /// Returns the number of the kind of a poll's outcome, 1 to 5.
+    /// Returns the numeric code of the kind of a poll's outcome, 1 to 5.
     pub fn number(self) -> u8
         ensures { result ≡ outcome_number self }
     {
@@ -78,8 +78,8 @@ impl Outcome {
         }
     }
 
-    /// Returns the exception code, the number of the malformation, or the number of the loss's
-    /// cause. Returns 0 for other outcomes.
+    /// Returns the exception code, or the numeric code of the malformation or of the cause of the
+    /// loss. Returns 0 for other outcomes.
     pub fn code(self) -> u8
         ensures { result ≡ outcome_code self }
     {
@@ -96,7 +96,7 @@ impl Malformation {
     ghost use Rattle.std.specs.Prelude.{◌≡◌};
     ghost use Rattle.poll_core.specs.Outcomes.{malformation_number};
 
-    /// Returns the number of a response's malformation, 1 to 5.
+    /// Returns the numeric code of a response's malformation, 1 to 5.
     pub fn number(self) -> u8
         ensures { result ≡ malformation_number self }
     {
@@ -130,7 +130,7 @@ impl LostCause {
     ghost use Rattle.std.specs.Prelude.{◌≡◌};
     ghost use Rattle.poll_core.specs.Outcomes.{cause_number};
 
-    /// Returns the number of the cause by which a poll was lost, 1 to 4.
+    /// Returns the numeric code of the cause by which a poll was lost, 1 to 4.
     pub fn number(self) -> u8
         ensures { result ≡ cause_number self }
     {

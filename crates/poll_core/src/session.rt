@@ -71,7 +71,7 @@ impl Session {
     }
 
     /// Returns whether the last call of `next`, `tick` or `close` reported an outcome and must be
-    /// called again.
+    /// repeated for further outcomes.
     pub fn settling(&self) -> bool
         ensures { result ≡ is_some self.now.settling }
     {
@@ -260,8 +260,8 @@ fn silent<'a>(poll: u64) -> Settled<'a>
     }
 }
 
-// Decodes the frame with the poll's transaction identifier, and returns the poll with its outcome
-// and response.
+// Decodes a frame that carries the poll's transaction identifier, and returns the poll with its
+// outcome and response.
 fn answered<'a>(poll: &PendingPoll, frame: Frame<'a>) -> Settled<'a>
     ensures reported { (bytes : List ℕ) → spelled frame.entry ≡ fields_of bytes
         → settled_of result ≡ (poll.now.number, answer poll.now bytes) }

@@ -1,5 +1,5 @@
--- Examples of the lookups of printed numbers: the first and the last number of each kind, and the
--- numbers just outside each range.
+-- Examples of the numeric codes that the program can print: the first and the last code of each
+-- kind, and the numbers just outside each range.
 use Rattle.std.proofs.Common.{◌≡◌, Some, None, true, false, refl, codes}
 use Rattle.printed_numbers.specs.Kinds.{kind_named}
 use Rattle.printed_numbers.specs.Numbers.{has_number}
@@ -91,8 +91,8 @@ http_fault_400 = refl
 http_fault_405 : has_number HttpFault 405 ≡ true
 http_fault_405 = refl
 
--- The body of an HTTP response with status 422 has the number of a refusal, or the faults of a
--- point list (CSV). So 422 is no HTTP fault.
+-- The body of an HTTP response with status 422 has the numeric code of a refusal, or the faults of
+-- a point list (CSV). So 422 is not the code of an HTTP fault.
 no_http_fault_422 : has_number HttpFault 422 ≡ false
 no_http_fault_422 = refl
 
@@ -120,7 +120,8 @@ status_3 = refl
 no_status_4 : has_number Status 4 ≡ false
 no_status_4 = refl
 
--- Examples of `kind_named`, which finds the kind of a printed number by the word before the number.
+-- Examples of `kind_named`, which finds the kind of a printed numeric code by the word before the
+-- code.
 
 fault_is_first_of_rows : kind_named (codes "fault") ≡ Some RowFault
 fault_is_first_of_rows = refl

@@ -1,4 +1,5 @@
--- The numbers that the program prints for each kind of refusal, fault, exception and status.
+-- The numeric codes that the program prints for refusals, rejected readings, lost and malformed
+-- polls, exceptions, faults and exit statuses.
 use Rattle.std.specs.Prelude.{◌≡◌, ℕ, Bool, ◌==◌, ◌&&◌, ◌||◌, IfSome, Option, is_some, nat_le}
 use Rattle.std.specs.Borrow.{Bor}
 use Rattle.printed_numbers.specs.declared.kind.Kind.{Kind}
@@ -19,8 +20,8 @@ is_fault_status number =
     number == 400 || is_from 403 405 number || number == 411 || number == 413 || number == 421
     || number == 431 || number == 503
 
--- True if the program prints the given number for the given kind: for example, the numbers 1 to 17
--- for `Refused`.
+-- True if the program can print the given numeric code for the given kind: for example, the codes 1
+-- to 17 for `Refused`.
 abbrev pub has_number : Kind → ℕ → Bool
 has_number Refused number = is_from 1 17 number
 has_number Held number = is_from 1 8 number
@@ -32,12 +33,12 @@ has_number ChainFault number = is_from 1 4 number
 has_number HttpFault number = is_fault_status number
 has_number Status number = nat_le number 3
 
--- States that a meaning explains the given printed number of the given kind.
+-- States that a meaning explains the given numeric code of the given kind.
 abbrev pub IsMeaningOf : Kind → ℕ → Bor Meaning → Type 0
 IsMeaningOf kind number meaning = (meaning.now.kind ≡ kind) × (meaning.now.number ≡ number)
 
--- States that a lookup returns the meaning of the given number if the number is of the given kind,
--- and otherwise `None`.
+-- States that a lookup returns the meaning of the given numeric code if the kind has this code, and
+-- otherwise `None`.
 abbrev pub Answers : Kind → ℕ → Option (Bor Meaning) → Type 0
 Answers kind number result =
     (is_some result ≡ has_number kind number) × IfSome result (IsMeaningOf kind number)

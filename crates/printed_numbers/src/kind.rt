@@ -1,8 +1,9 @@
-//! The kinds of printed numbers, and the word that the program prints before a number of each kind.
+//! The kinds of printed numeric codes, and the word that the program prints before a code of each
+//! kind.
 ghost use Rattle.std.specs.Prelude.{◌≡◌};
 ghost use Rattle.printed_numbers.specs.Kinds.{kind_named, kinds};
 
-/// The kind of a printed number. A number has a different meaning for each kind.
+/// The kind of a printed numeric code. A code has a different meaning for each kind.
 #[derive(Clone, Copy, PartialEq, Eq)]
 pub enum Kind {
     /// `refused 12`: the program refused a script line, a request or an event of a device.
@@ -38,8 +39,8 @@ static KINDS: [Kind; 9] = [
     Kind::Status,
 ];
 
-/// Returns all kinds of printed numbers, in the order in which `kind_named` searches them for a
-/// word.
+/// Returns all kinds of printed numeric codes, in the order in which `kind_named` searches them for
+/// a word.
 pub fn kinds() -> &'static [Kind]
     ensures { result.now ≡ kinds }
 {
@@ -49,8 +50,8 @@ pub fn kinds() -> &'static [Kind]
 impl Kind {
     ghost use Rattle.printed_numbers.specs.Kinds.{word_of};
 
-    /// Returns the word that the program prints before a number of this kind, such as `refused` in
-    /// `refused 12`.
+    /// Returns the word that the program prints before a numeric code of this kind, such as
+    /// `refused` in `refused 12`.
     pub fn word(self) -> &'static str
         ensures { result.now ≡ word_of self }
     {
@@ -66,8 +67,8 @@ impl Kind {
     }
 }
 
-/// Returns the first kind of printed numbers in `kinds` that has the given word. Three kinds have
-/// the word `fault`; the first of the three is `RowFault`.
+/// Returns the first kind of printed numeric codes in `kinds` that has the given word. Three kinds
+/// have the word `fault`; the first of the three is `RowFault`.
 pub fn kind_named(word: &str) -> Option<Kind>
     ensures { result ≡ kind_named word.now }
 {

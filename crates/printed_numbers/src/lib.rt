@@ -1,4 +1,5 @@
-//! The meaning, the usual cause and the remedy of each number that the program prints.
+//! The meaning, the usual cause and the remedy of each numeric code that the program prints, such
+//! as 12 in `refused 12`.
 #![tactic(auto)]
 
 mod kind;

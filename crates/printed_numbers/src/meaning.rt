@@ -1,4 +1,4 @@
-//! Looks up the meaning of a printed number by its kind.
+//! Looks up the meaning of a printed numeric code by the code's kind.
 ghost use Rattle.std.specs.Prelude.{◌≡◌, IfSome, is_some};
 ghost use Rattle.printed_numbers.specs.Numbers.{IsMeaningOf, has_number};
 
@@ -7,8 +7,8 @@ use crate::tables::{
     chain_fault, exception, exit_status, hold, http_fault, loss, malformation, refusal, row_fault,
 };
 
-/// The meaning of a printed number, its usual cause, and its remedy. Each text is a sentence that
-/// begins with a small letter and has no full stop.
+/// The meaning of a printed numeric code, its usual cause, and its remedy. Each text is a sentence
+/// that begins with a small letter and has no full stop.
 #[derive(Clone, Copy)]
 pub struct Meaning {
     pub kind: Kind,
@@ -18,7 +18,7 @@ pub struct Meaning {
     pub remedy: &'static str,
 }
 
-/// Returns the meaning of a printed number, or `None` if the kind does not have the number.
+/// Returns the meaning of a printed numeric code, or `None` if the kind does not have this code.
 pub fn meaning_of(kind: Kind, number: u32) -> Option<&'static Meaning>
     ensures has { is_some result ≡ has_number kind number }
     ensures own { IfSome result (IsMeaningOf kind number) }

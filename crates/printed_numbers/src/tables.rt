@@ -1,4 +1,4 @@
-//! One table of meanings for each kind of printed numbers, in the words of docs/SCRIPT.md.
+//! One table of meanings for each kind of printed numeric codes, in the words of docs/SCRIPT.md.
 
 mod chain_faults;
 mod exceptions;

@@ -50,7 +50,8 @@ ends_by-true run limit e (inl l) = grind (arith, nat_tests)
 ends_by-true run limit e (inr (inl h)) = let f = ap code_of h.0 in let l = h.1 in grind (arith, nat_tests)
 ends_by-true run limit e (inr (inr h)) = let f = ap code_of h.0.function in let a = h.0.area in let l = h.1 in grind (arith, nat_tests)
 
--- The order of ranges by their ends is transitive, also if two ranges end at the same register.
+-- If the range `l` ends before the range `x`, and the range `y` does not end before `x`, then `l`
+-- ends before `y`.
 pub ends-before-further : (l x y : Run) → EndsBefore l x → ¬ EndsBefore y x → EndsBefore l y
 ends-before-further l x y (inl f) never = inl (elim (cases_lt (code_of y.function) (code_of x.function)) [ inl o ↦ absurd (never (inl o)) | inr ge ↦ omega (arith, f, ge) ])
 ends-before-further l x y (inr (inl h)) never =
@@ -104,8 +105,8 @@ ends-partitioned ended limit ordered i j d below within e = elim (cases_eq i j) 
       ]
 ]
 
--- If a range's end lies between the ends of two ranges of one area (function and area number), the
--- range is in that area.
+-- If a range is ordered by its end between two ranges of one area (function and area number), then
+-- it is in the same area.
 area-between : (b i l : Run) → SameArea b l → ¬ EndsBefore l i → ¬ EndsBefore i b → SameArea b i
 area-between b i l s after before =
     let f = ap code_of s.function in
@@ -123,8 +124,8 @@ area-between b i l s after before =
       ]
     ]
 
--- In items sorted by their ends, the last item that ends at or before the limit has the greatest
--- end. The limit is 125 registers after the start of the read.
+-- In items sorted by their ends, the last item that ends at or before a limit has the greatest of
+-- these ends. The limit is 125 registers after the start of the read.
 pub greatest-end : (ended : List Run) (begin limit : Run) (count : ℕ) → AllPairs (λ a b. ¬ EndsBefore b a) ended → SameArea begin limit → limit.end ≡ begin.first + 125
     → Contains ended begin → begin.end ≤ begin.first + 125 → count ≤ length ended
     → IsPartitionPoint (λ r. ends_by r limit ≡ true) (λ r. ends_by r limit ≡ false) ended count

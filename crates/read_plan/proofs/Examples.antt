@@ -1,4 +1,5 @@
--- Checks the definition of a read plan by example plans, and at both limits of a read's size.
+-- Checks the definition of a read plan by examples: two plans, and reads with the least and the
+-- greatest number of registers.
 use native.Mathlib.Omega.{arith}
 use Rattle.std.proofs.Common.{◌≡◌, ℕ, zero, suc, ◌<◌, ◌≤◌, List, [], ◌∷◌, get_or, take, refl, ap, inl, inr}
 use Rattle.std.specs.List.{All, AllPairs}
@@ -13,7 +14,7 @@ run first end = record { function = HoldingRegisters; area = 0; first = first; e
 alike : (a b c d : ℕ) → SameArea (run a b) (run c d)
 alike a b c d = record { function = refl; area = refl }
 
--- A read has at most 125 registers.
+-- A read has 1 to 125 registers.
 
 most_registers : IsReadable (run 0 125)
 most_registers = (omega arith, omega arith)

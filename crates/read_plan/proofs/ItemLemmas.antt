@@ -29,7 +29,8 @@ any-run : (P : Run → Type 0) (points : List ListedPoint) (p : ListedPoint) →
 any-run P points p w h =
     (w.0, point_run p, omega (arith, w.1, length-map points point_run), get_or-map point_run points w.0 p (point_run p) w.1 ∙ ap point_run w.2, h)
 
--- The properties of the item of a point, which is the range of the point and its scale point.
+-- The properties of a point's item. The item is the single range of registers that covers both the
+-- point and its scale point.
 pub record ItemFacts (points : List ListedPoint) (p : ListedPoint) (item : Run) : Type 0 where
   pub readable : IsReadable item
   pub inside : item.end ≤ 65536

@@ -1,5 +1,5 @@
--- Proves that reads by the planning rule form a valid plan. The premise is that each item (the
--- registers of a point and its scale factor) fits in one read.
+-- Proves that reads that follow the planning rule form a valid plan if each item (a point and its
+-- scale factor) fits in one read.
 use Rattle.std.proofs.Common.{◌≤◌, List, get_or, arith}
 use Rattle.std.specs.List.{All, Any}
 use Rattle.read_plan.specs.declared.run.Run.{Run}

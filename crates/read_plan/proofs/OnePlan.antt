@@ -1,5 +1,5 @@
--- Proves that a point list has at most one plan by the planning rule: each read begins at the first
--- uncovered register and covers as much as possible.
+-- Proves that at most one plan for a point list follows the planning rule. By this rule, each read
+-- begins at the first uncovered register and covers as much as possible.
 use Rattle.std.proofs.Common.{◌≡◌, ◌∙◌, ℕ, ◌+◌, ◌≤◌, List, [], ◌∷◌, refl, ap, subst, arith}
 use Rattle.std.proofs.Math.Bridge.{le_prop}
 use Rattle.mb_wire.specs.declared.span.ReadFunction.{ReadFunction}

@@ -35,7 +35,8 @@ after_both x y r (inr (inr a)) (inl b) = inl (omega (arith, same_function x y a.
 after_both x y r (inr (inr a)) (inr (inl b)) = inr (inl (a.0.function ∙ b.0, omega (arith, a.0.area, b.1)))
 after_both x y r (inr (inr a)) (inr (inr b)) = inr (inr (same_area-trans x y r a.0 b.0, omega (arith, a.1, b.1)))
 
--- In a sorted list of reads, a range that comes before one read comes before each later read.
+-- In a sorted list of reads, a range that is ordered before one read is also ordered before each
+-- later read.
 before_later : (ys : List Run) (x : Run) (k j : ℕ) (d : Run) → AllPairs ComesBefore ys → k ≤ j → j < length ys
     → ComesBefore x (get_or ys k d) → ComesBefore x (get_or ys j d)
 before_later ys x k j d ordered le lt before =
@@ -44,14 +45,14 @@ before_later ys x k j d ordered le lt before =
       | inr ge ↦ subst (λ (n : ℕ). ComesBefore x (get_or ys n d)) (omega (arith, le, ge)) before
     ]
 
--- If each item of a list is contained in a read, then any single item of the list is contained in a
--- read.
+-- If every item of a list is contained in some read, then the item with the index `k` is contained
+-- in some read.
 contained_item : (reads items : List Run) (item : Run) (k : ℕ) → All (IsContained reads) items → k < length items → get_or items k item ≡ item
     → IsContained reads item
 contained_item reads items item k all lt is = subst (IsContained reads) is (all k item lt)
 
--- Suppose that two plans by the planning rule have the same first `k` reads. Then the next read of
--- one plan does not come before that of the other.
+-- Suppose that two plans follow the planning rule and have the same first `k` reads. Then the next
+-- read of the first plan is not ordered before that of the second.
 not_before : (items xs ys : List Run) (k : ℕ) (d : Run) → FollowsRule items xs → FollowsRule items ys → k < length xs → k < length ys
     → take k xs ≡ take k ys → ComesBefore (get_or xs k d) (get_or ys k d) → ⊥
 not_before items xs ys k d hx hy there here same before =
@@ -119,8 +120,8 @@ same_front items xs ys (suc k) hx hy there here =
     ∙ ap (λ (r : Run). take k ys ++ r ∷ []) (same_read items xs ys k a_run hx hy in_xs in_ys same)
     ∙ sym (take_more ys k a_run in_ys) ∙ ap (λ n. take n ys) next
 
--- If two plans by the planning rule cover the same items (register ranges), then neither plan has
--- fewer reads.
+-- If two plans for the same items (register ranges) follow the planning rule, then neither plan has
+-- fewer reads than the other.
 no_longer : (items xs ys : List Run) → FollowsRule items xs → FollowsRule items ys → length xs < length ys → ⊥
 no_longer items xs ys hx hy less =
     let n : ℕ = length xs in

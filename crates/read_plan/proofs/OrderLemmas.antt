@@ -26,7 +26,8 @@ key_cmp-total =
 abbrev pub key_of : (Run → ℕ) → Run → Key
 key_of register run = (code_of run.function, run.area, register run)
 
--- In a sorted list, a later range is not less than an earlier range.
+-- If a list of ranges is sorted, a range of the list is never less than a range with a smaller
+-- index.
 pub sorted-far : (register : Run → ℕ) {F : Type 0} {g : Mut F (Bor Run × Unit {0}) Key} {f : F} (xs : List Run)
     → ((key : Run → Key) → ComputesKey g key f → IsSortedByKey key key_cmp xs)
     → ((a : Bor Run × Unit {0}) (r : Key) (f' : F) → Called g f a r f' → (r ≡ key_of register a.0.now) × (f' ≡ f))

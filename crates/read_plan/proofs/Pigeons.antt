@@ -6,7 +6,8 @@ use Rattle.std.proofs.lemmas.Bool.{cases_lt}
 use Rattle.std.proofs.lemmas.List.{get_or_default}
 use Rattle.std.proofs.lemmas.List.Edits.{get_or-remove_above, get_or-remove_below, length-remove}
 
--- Removing an element keeps the elements at other indexes.
+-- If an element at another index than `i` has a property, then some element still has the property
+-- after element `i` is removed.
 any-remove : {Y : Type 0} (P : Y → Type 0) (ys : List Y) (i : ℕ) → i < length ys → (w : Any P ys) → w.0 ≢ i → Any P (remove ys i)
 any-remove P ys i l w ne =
     let one = length-remove ys i l in

@@ -60,7 +60,9 @@ module _ (items runs : List Run) (rule : FollowsRule items runs) (readable : All
           let b = e.1 in
           inr (inr (same_area-trans (run_at i) (run_at j) x c.0 e.0, omega (arith, rises, b)))
 
-  -- The binary search returns the first read that contains the item (a range of registers).
+  -- Suppose that some read contains an item (a range of registers), and that exactly the first
+  -- `count` reads end before it. Then read number `count`, counted from 0, is the first that
+  -- contains the item.
   first-holding : (x : Run) (count : ℕ) → IsContained runs x → ((k : ℕ) → k < count → k < length runs → EndsBefore (run_at k) x)
       → ((k : ℕ) → count ≤ k → k < length runs → ¬ EndsBefore (run_at k) x) → IsFirstHolding runs x count
   first-holding x count contained before after =

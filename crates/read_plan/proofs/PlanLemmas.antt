@@ -30,7 +30,7 @@ any-take {X} P xs k j d below within p =
       p,
     )
 
--- Of two ranges in one area, the range that comes first begins at the lower register.
+-- Of two ranges in one area, the range that is ordered first begins at the lower register.
 pub first-before : (a b : Run) → ComesBefore a b → SameArea a b → a.first < b.first
 first-before a b (inl f) s = let e = ap code_of s.function in absurd (omega (arith, e, f))
 first-before a b (inr (inl h)) s = let e = s.area in absurd (omega (arith, e, h.1))
@@ -44,7 +44,7 @@ pub contains-any : {X : Type 0} (P : X → Type 0) (xs : List X) → (w : Any P 
 contains-any P xs w = (w.0, w.2, w.3)
 
 -- True if the read `y` contains an item (a point and its scale point) that begins at the first
--- register of read `k`.
+-- register of read `k`. No read before `k` contains this item.
 pub record HoldsBeginning (items reads : List Run) (k : ℕ) (y : Run) : Type 0 where
   pub item : Run
   pub among : Contains items item

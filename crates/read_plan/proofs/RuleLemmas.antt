@@ -1,5 +1,5 @@
--- Proves that the computed reads follow the planning rule: each ends at the greatest end of the
--- items within 125 registers from its start.
+-- Proves that the computed reads follow the planning rule. Each read ends at the greatest end of
+-- those items that lie within 125 registers from the start of the read.
 use Rattle.std.proofs.Common.{◌≡◌, ◌∙◌, ℕ, ◌+◌, ◌<◌, ◌≤◌, List, length, get_or, take, sym, refl, ap, arith, inl, inr, subst}
 use Rattle.std.specs.List.{All, AllZip, Any, Contains}
 use Rattle.std.specs.List.Sorted.{IsPermutation}
@@ -42,8 +42,8 @@ module _ (items begins reads : List Run) (readable : All IsReadable items) (from
   abbrev read_at : ℕ → Run
   read_at k = get_or reads k anything
 
-  -- If an item begins before the start of a read in its area, then the item lies within 125
-  -- registers from the start of an earlier read.
+  -- Suppose that an item begins before the start of a read in the item's area. Then the item lies
+  -- within 125 registers from the start of an earlier read.
   earlier : (x : Run) (k : ℕ) → k < length begins → SameArea (begin_at k) x → x.first < (begin_at k).first → Any (λ b. LiesWithinReach b x) begins
       → (j : ℕ) × (j < k) × LiesWithinReach (begin_at j) x
   earlier x k within area lower w =
@@ -78,8 +78,8 @@ module _ (items begins reads : List Run) (readable : All IsReadable items) (from
         to_end = all-at (λ item. SameArea (begin_at j) item → item.end ≤ (begin_at j).first + 125 → item.end ≤ (read_at j).end) items f.end.last x among reach.same_area reach.in_reach;
       }
 
-  -- An earlier read ends before the end of the item (a range of registers) at which a later read in
-  -- the same area starts.
+  -- Suppose that a later read starts at an item (a range of registers). Then each earlier read in
+  -- the same area ends before the end of this item.
   unreached : (j k : ℕ) → j < k → k < length begins → SameArea (begin_at j) (begin_at k) → (read_at j).end < (begin_at k).end
   unreached j k below within area =
       let a = (from.apart j k anything below within).1 area in
@@ -175,8 +175,8 @@ module _ (items begins reads : List Run) (readable : All IsReadable items) (from
         );
   }
 
--- Reads that begin and end as computed from sorted items (register ranges) follow the planning rule
--- for the same items in any order.
+-- If reads begin and end as computed from the sorted items (register ranges), then they follow the
+-- planning rule for these items in any order.
 pub rule-of-sorted : (items sorted ended begins reads : List Run) → IsPermutation items sorted → IsPermutation items ended → All IsReadable items → AreBeginnings sorted begins
     → AllZip (ReadsFrom ended) begins reads → FollowsRule items reads
 rule-of-sorted items sorted ended begins reads same-sorted same-ended readable from zipped =
@@ -187,8 +187,8 @@ rule-of-sorted items sorted ended begins reads same-sorted same-ended readable f
     let f = AllZip-get_or (ReadsFrom ended) begins reads k anything anything zipped within in
     record { same_area = f.same_area; first = f.first; end = greatest-permutation ended items (get_or begins k anything) (get_or reads k anything).end back f.end })
 
--- Each item (register range) at which a read starts is in the list of items, in whatever order the
--- items are sorted.
+-- Each item (register range) at which a read starts is in the list of items, however the list is
+-- sorted.
 pub beginnings-among : (items sorted ended begins : List Run) → IsPermutation items sorted → IsPermutation items ended → AreBeginnings sorted begins → All (Contains ended) begins
 beginnings-among items sorted ended begins same-sorted same-ended from =
     All-weaker (Contains sorted) (Contains ended)

@@ -1,5 +1,5 @@
 -- Lemmas about the map from names of scale points (scale factor registers) to their register
--- ranges. A loop builds the map from the last point of a list to the first.
+-- ranges. A loop over the point list builds the map, from the last point to the first.
 use Rattle.std.proofs.Common.{◌≡◌, ◌∙◌, ℕ, Bool, true, false, List, [], ◌∷◌, ◌++◌, Bor, ap, cond, map, refl, reverse, subst, sym, Some, None}
 use Rattle.std.specs.Prelude.{◌&&◌}
 use Rattle.std.specs.declared.option.Option.{Option}
@@ -31,7 +31,7 @@ chosen true true p o e = refl
 chosen true false p o e = refl
 chosen false named p o e = absurd (false≢true e)
 
--- True if `after` is the map `before` with the range `run` stored under the name.
+-- True if the second map is the first map with the given range stored under the name.
 abbrev pub Puts : BTreeMap (Bor (List ℕ)) Run → BTreeMap (Bor (List ℕ)) Run → List ℕ → Run → Type 0
 Puts before after name run = UpdatesBy (λ x y. slice_cmp nat_cmp x.now y.now) (λ k. slice_cmp nat_cmp name k.now) before after (Some run)
 
@@ -42,9 +42,9 @@ scale-first points before after p scale runs puts name =
     ∙ ap (cond (bytes_eq p.name name) (Some (point_run p))) (runs name)
     ∙ chosen (is_sunssf p.kind) (bytes_eq p.name name) p (scale_point points name) scale
 
--- After the loop stores one more scale point (a scale factor register), the map has the first scale
--- point of each name among the visited points. The loop visits the list from its last point to its
--- first.
+-- The loop visits the point list from its last point to its first. After it stores one more scale
+-- point (a scale factor register), the map has the first scale point of each name among the visited
+-- points.
 pub scale-read : (yielded : List (Bor ListedPoint)) (p : Bor ListedPoint) (before after : BTreeMap (Bor (List ℕ)) Run) (name : List ℕ) (run : Run) → is_sunssf p.now.kind ≡ true
     → name ≡ p.now.name → run ≡ point_run p.now
     → AreScaleRuns (points-read yielded) before → Puts before after name run → AreScaleRuns (points-read (yielded ++ p ∷ [])) after

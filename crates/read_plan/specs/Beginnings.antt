@@ -7,20 +7,21 @@ use Rattle.read_plan.specs.declared.run.TheConstants.{READ_LIMIT}
 use Rattle.mb_wire.specs.Spans.{code_of}
 use Rattle.read_plan.specs.Plans.{ComesBefore, LiesWithinReach, SameArea}
 
--- True if a read that begins at the range `a` cannot contain the later range `b`: `b` is in another
--- area, or ends beyond 125 registers from the first register of `a`.
+-- True if a read that begins at the first range cannot contain the second, later range. The second
+-- range is in another area, or ends beyond 125 registers from the first register of the first
+-- range.
 abbrev pub BeginsApart : Run → Run → Type 0
 BeginsApart a b = ComesBefore a b × (SameArea a b → a.first + READ_LIMIT < b.end)
 
--- True if `found` are the ranges of `items` at which reads begin. No two of them fit in one read,
--- and each range of `items` lies within 125 registers from the start of one of them.
+-- True if `found` are the ranges of `items` at which reads begin. No two ranges of `found` fit in
+-- one read. Each range of `items` lies within 125 registers from the start of a range of `found`.
 pub record AreBeginnings (items found : List Run) : Type 0 where
   pub among : All (Contains items) found
   pub apart : AllPairs BeginsApart found
   pub reach : All (λ item. Any (λ begin. LiesWithinReach begin item) found) items
 
--- True if the range ends at or before the limit, by function, then by area number, then by last
--- register.
+-- True if the range is at or before the limit, ordered by function, then by area number, then by
+-- last register.
 abbrev pub ends_by : Run → Run → Bool
 ends_by run limit =
     nat_lt (code_of run.function) (code_of limit.function)
@@ -35,8 +36,8 @@ pub record IsGreatestEnd (items : List Run) (begin : Run) (end : ℕ) : Type 0 w
   pub last : All
       (λ item. SameArea begin item → item.end ≤ begin.first + READ_LIMIT → item.end ≤ end) items
 
--- True if the read starts at the first register of the range `begin`, and ends at the greatest end
--- of the ranges of `items` within 125 registers.
+-- True if the read starts at the first register of the range `begin`. The read must end at the
+-- greatest end of those ranges of `items` that end within 125 registers.
 pub record ReadsFrom (items : List Run) (begin read : Run) : Type 0 where
   pub same_area : SameArea begin read
   pub first : begin.first ≡ read.first

@@ -38,8 +38,8 @@ abbrev pub with_scale : Run → Option ListedPoint → Run
 with_scale run None = run
 with_scale run (Some scale) = joined run (point_run scale)
 
--- The smallest range that contains a point's registers and those of the scale factor that `scale`
--- names, if any.
+-- The smallest range that contains a point's registers and those of the scale factor that the
+-- point's scale names, if any.
 abbrev pub with_scale_of : List ListedPoint → Run → PointScale → Run
 with_scale_of points run Unscaled = run
 with_scale_of points run (Fixed exponent) = run

@@ -12,11 +12,12 @@ pub record Planned : Type 0 where
   pub points : List ListedPoint
   pub reads : List PlannedRead
 
--- True if the points form a valid point list, and the reads are its plan with the fewest reads.
+-- True if the points form a valid point list, and the reads are the plan with the fewest reads for
+-- these points.
 pub record IsPlanned (list : Planned) : Type 0 where
   pub points : IsPointList list.points
   pub rule : FollowsRule (items_of list.points) (read_runs list.reads)
 
--- States that each list of points has at most one plan by the planning rule.
+-- States that at most one plan for each list of points follows the planning rule.
 abbrev pub ListsArePlannedOnce : Type 0
 ListsArePlannedOnce = (a b : Planned) → IsPlanned a → IsPlanned b → a.points ≡ b.points → a ≡ b

@@ -20,14 +20,15 @@ read_run read =
 abbrev pub read_runs : List PlannedRead → List Run
 read_runs reads = map read_run reads
 
--- The content of a plan: its reads, and for each point the first register and the item, which is
--- the range of registers that contains the point and its scale point.
+-- The content of a plan: its reads, the first register of each point, and the item of each point.
+-- An item is the range of registers that contains the point and its scale point.
 pub record Planned : Type 0 where
   pub starts : List ℕ
   pub items : List Run
   pub reads : List PlannedRead
 
--- True if a point whose first register is `start` begins inside this range of registers.
+-- True if a point's first register, which has the given address, lies inside this range of
+-- registers.
 abbrev pub BeginsInside : Run → ℕ → Type 0
 BeginsInside item start = (item.first ≤ start) × (start < item.end)
 

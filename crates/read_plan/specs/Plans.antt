@@ -18,7 +18,7 @@ pub record Holds (read item : Run) : Type 0 where
   pub from_first : read.first ≤ item.first
   pub to_end : item.end ≤ read.end
 
--- True if at least one of the reads contains the register range `item`.
+-- True if at least one of the reads contains the given register range.
 abbrev pub IsContained : List Run → Run → Type 0
 IsContained reads item = Any (λ read. Holds read item) reads
 
@@ -44,16 +44,16 @@ abbrev pub AreFewest : (points items : List Run) → (count : ℕ) → Type 0
 AreFewest points items count =
     (reads : List Run) → IsLawful points items reads → count ≤ length reads
 
--- True if range `a` comes before range `b`, ordered by function, then by area number, then by first
--- register.
+-- True if the first range comes before the second, ordered by function, then by area number, then
+-- by first register.
 abbrev pub ComesBefore : Run → Run → Type 0
 ComesBefore a b =
     (code_of a.function < code_of b.function)
     ⊎ ((a.function ≡ b.function) × (a.area < b.area))
     ⊎ (SameArea a b × a.first < b.first)
 
--- True if range `a` comes before range `b`, ordered by function, then by area number, then by last
--- register.
+-- True if the first range comes before the second, ordered by function, then by area number, then
+-- by last register.
 abbrev pub EndsBefore : Run → Run → Type 0
 EndsBefore a b =
     (code_of a.function < code_of b.function)
@@ -76,14 +76,15 @@ pub record BeginsAtFirstUnheld (items earlier : List Run) (read : Run) : Type 0 
   pub first : All (λ item. SameArea read item → item.first < read.first
       → IsContained earlier item) items
 
--- True if the read ends at the greatest last register of the items (ranges that one read must
--- contain) within 125 registers from its first register.
+-- True if the read ends at the greatest end of the items within 125 registers from the read's first
+-- register. An item is a range that one read must contain.
 pub record EndsAtLastInReach (items : List Run) (read : Run) : Type 0 where
   pub at_item : Any (λ item. LiesWithinReach read item × (item.end ≡ read.end)) items
   pub last : All (λ item. LiesWithinReach read item → item.end ≤ read.end) items
 
--- True if the reads are in order and follow the planning rule. Each read begins at the first item
--- that no earlier read contains, and ends with the last item within 125 registers.
+-- True if the reads are in order, contain all items, and follow the planning rule. By this rule,
+-- each read begins at the first item that no earlier read contains. It ends at the greatest end of
+-- those items that lie within 125 registers.
 pub record FollowsRule (items reads : List Run) : Type 0 where
   pub ordered : AllPairs ComesBefore reads
   pub begins : (k : ℕ) (d : Run) → k < length reads

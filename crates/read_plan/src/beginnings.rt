@@ -21,7 +21,7 @@ fn lies_within_reach(begin: &Run, item: &Run) -> bool
 }
 
 // Returns whether a register range lies within 125 registers from the start of a range in `found`.
-// The ranges are in order, so only the last of `found` is compared.
+// The ranges are in order, so that it is enough to compare the last range of `found`.
 fn is_reached(found: &[Run], item: &Run) -> bool
     ensures reached { OnTrue result (Any (λ begin. LiesWithinReach begin item.now) found.now) }
     ensures beyond { OnFalse result ((d : Run) → 0 < length found.now

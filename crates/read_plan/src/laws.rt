@@ -5,14 +5,14 @@ ghost use Rattle.read_plan.specs.PlannedLists.{ListsArePlannedOnce};
 ghost use Rattle.read_plan.specs.Plans.{FollowsRule, IsLawful};
 
 /// Theorem: for all points and items (register ranges), no valid plan has fewer reads than the plan
-/// by the planning rule.
+/// that follows the planning rule.
 pub fn rule_is_least()
     ensures { (points items reads other : List Run) → FollowsRule items reads
         → IsLawful points items other → length reads ≤ length other }
 {}
 
-/// Theorem: each list of points has at most one plan by the planning rule, and `PlannedList::new`
-/// creates this plan.
+/// Theorem: at most one plan for each list of points follows the planning rule, and
+/// `PlannedList::new` creates this plan.
 pub fn lists_are_planned_once()
     ensures { ListsArePlannedOnce }
 {}

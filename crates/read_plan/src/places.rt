@@ -11,7 +11,7 @@ use std::marker::Model;
 pub struct Place {
     /// The index of the read in the plan, from 0.
     pub read: usize,
-    /// The number of registers in the read before the point's first register.
+    /// The number of the read's registers that precede the point's first register.
     pub offset: u16,
 }
 

@@ -28,8 +28,8 @@ fn reads_from(alloc: Global, items: &[Run], begins: &[Run]) -> Result<Vec<Run>, 
     Ok(reads)
 }
 
-/// Returns the reads by the planning rule for items (ranges that one read must contain) of 1 to 125
-/// registers.
+/// Returns the reads that follow the planning rule for the given items (ranges that one read must
+/// contain), each of 1 to 125 registers.
 pub fn rule_reads(alloc: Global, items: &[Run]) -> Result<Vec<Run>, AllocError>
     requires readable { All IsReadable items.now }
     requires inside { All (λ item. item.first < ADDRESSES) items.now }

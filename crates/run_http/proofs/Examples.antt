@@ -16,8 +16,8 @@ use Rattle.run_http.specs.declared.route.RunRoute.{RunRoute}
 use Rattle.run_http.specs.declared.route.RunRoute.TheVariants.{Own, Meters}
 use Rattle.run_http.specs.declared.route.StatusRoute.TheVariants.{Rejected}
 
--- Examples of the text lines that describe the meters at an accounting register (a named energy
--- counter).
+-- Examples of the text lines that describe the meters of an accounting register (a named energy
+-- counter), past and present.
 
 -- An open meter with the shortest name and the least numbers: opened at time 0, counter 0, least
 -- scale.
@@ -59,7 +59,7 @@ the_greatest : meters_text (greatest ∷ [])
 unfolding digits
 the_greatest = refl
 
--- Two meters have two lines in the given order, and a last line with their number.
+-- Two meters give two lines in the given order, and a last line with the number of meters.
 both : meters_text (greatest ∷ least ∷ [])
     ≡ codes "Z-3456789_123456 18446744073709551614 18446744073709551615 4294967295 10 18446744073709551615 ended\na 0 0 0 -10 0 open\nend 2\n"
 unfolding digits
@@ -76,7 +76,7 @@ a_register = refl
 sixteen_bytes : IsRegisterTarget (codes "/registers/a234567890123456/meters") (asks (codes "a234567890123456"))
 sixteen_bytes = refl
 
--- A name of 17 bytes is invalid, and matches no register.
+-- A name of 17 bytes is invalid, and no accounting register has it.
 seventeen_bytes : IsRegisterTarget (codes "/registers/a2345678901234567/meters") (Some (Meters None))
 seventeen_bytes = refl
 
@@ -86,8 +86,8 @@ no_bytes = refl
 a_digit_first : IsRegisterTarget (codes "/registers/1/meters") (Some (Meters None))
 a_digit_first = refl
 
--- The target `/registers/main/meter` lacks one byte of a route's path, so it has no route of
--- `sunreg run`.
+-- The target `/registers/main/meter` lacks the last letter of `/registers/main/meters`, so it has
+-- no route of `sunreg run`.
 one_byte_less : IsRegisterTarget (codes "/registers/main/meter") None
 one_byte_less = refl
 

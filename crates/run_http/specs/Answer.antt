@@ -10,8 +10,8 @@ use Rattle.mb_wire.specs.declared.link.LastTake.{LastTake}
 use Rattle.run_http.specs.declared.answer.ClientResponse.{ClientResponse}
 use Rattle.run_http.specs.declared.answer.ClientResponse.TheVariants.{Open, Replied, Failed}
 
--- The function `handle` of the crate `office_http`, run on the client's bytes, ended with the
--- result `ending` and wrote the response `reply`.
+-- States that the function `handle` of the crate `office_http` processed the client's bytes, ended
+-- with the result `ending`, and wrote the response `reply`.
 pub record Serves {B : Type 0} (ledger : B → Ledger) (at : ℕ) (old new : Office B)
     (request : List ℕ) (ending : Result (Unit {0}) HandleFault) (reply : List ℕ) : Type 0 where
   pub left : List ℕ
@@ -20,8 +20,8 @@ pub record Serves {B : Type 0} (ledger : B → Ledger) (at : ℕ) (old new : Off
       (passage (Some request) (Some left) (Some []) (Some reply) last) ending
 
 -- The result of looking for a request in a client's bytes. Open means that the bytes hold no
--- complete request. Replied has the response, which is cut off if the store failed. Failed means
--- that memory ran out, or the request took too many reads.
+-- complete request. Replied has the response; if the store failed, the end of the response is
+-- missing. Failed means that memory ran out, or the request took too many reads of the connection.
 abbrev pub Asks : {B : Type 0} → (B → Ledger) → (at : ℕ) → (old new : Office B)
     → (request : List ℕ) → ClientResponse → Type 0
 Asks ledger at old new request Open =

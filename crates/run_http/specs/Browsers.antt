@@ -6,13 +6,14 @@ use Rattle.run_http.specs.declared.route.RunRoute.TheVariants.{Own, Metrics, Sit
 use Rattle.run_http.specs.declared.route.StatusRoute.{StatusRoute}
 use Rattle.run_http.specs.declared.route.StatusRoute.TheVariants.{Status, Page, Rejected}
 
--- True if the route is a part of the web page. These parts have their own Cache-Control header.
+-- True if the route requests a part of the web page, such as its script. These parts have their own
+-- Cache-Control header.
 abbrev pub is_part : StatusRoute → Bool
 is_part Status = false
 is_part (Page part) = true
 is_part (Rejected status) = false
 
--- True if the request's route is a part of the web page.
+-- True if the request's target has a route, and this route leads to a part of the web page.
 abbrev pub is_page : Option RunRoute → Bool
 is_page None = false
 is_page (Some (Own own)) = is_part own
@@ -48,7 +49,8 @@ append_at more reply (Some at) = take (at + 1) reply ++ more ++ drop (at + 1) re
 abbrev pub with_headers : (more reply : List ℕ) → List ℕ
 with_headers more reply = append_at more reply (first_line_end reply)
 
--- The response `reported` is the response `reply` with the headers for browsers inserted.
+-- States that `reported` is the response `reply` with the headers for browsers inserted after its
+-- status line.
 pub record IsForBrowsers (names : List (List ℕ)) (bytes reply reported : List ℕ) : Type 0 where
   pub route : Option RunRoute
   pub for : IsFor names bytes route

@@ -34,8 +34,8 @@ next_place facts opening = length (rows_of facts opening) + 2
 abbrev pub quarter_of : (moment : ℕ) → ℕ
 quarter_of moment = moment - moment % INTERVAL_SECONDS
 
--- The time of the last entry before the sequence number `place` that is not voided. The opening
--- entry cannot be voided, so this time always exists.
+-- The time of the meter's last entry that is not voided (withdrawn) and has a sequence number below
+-- `place`. The opening entry cannot be voided, so this time always exists.
 abbrev pub stood_at : List Fact → Opening → (place : ℕ) → ℕ
 stood_at facts opening place =
     let entries = entries_in (entries_before place (rows_of facts opening)) in
@@ -48,20 +48,20 @@ changes_of facts place None = 0
 changes_of facts place (Some opening) = quarter_of (stood_at facts opening place)
 
 -- The time from which quarter hours of the meter can change, if no entry before the sequence number
--- `place` is voided (cancelled). It is the start of the quarter hour with the last valid entry
--- before `place`.
+-- `place` is voided (cancelled). This time is the start of the quarter hour with the last valid
+-- entry before `place`.
 abbrev pub changes_from : List Fact → (meter : List ℕ) → (place : ℕ) → ℕ
 changes_from facts meter place = changes_of facts place (opening_of facts meter)
 
--- If the record voids (withdraws) an entry of the meter, then the entry's sequence number is at
--- least `place`.
+-- States that, if the record voids (withdraws) an entry of the meter, then the entry's sequence
+-- number is at least `place`.
 abbrev pub VoidsFrom : (meter : List ℕ) → (place : ℕ) → Fact → Type 0
 VoidsFrom meter place (fact.Void voided) = voided.meter ≡ meter → place ≤ voided.place
 VoidsFrom meter place _ = Unit {0}
 
 -- States that later records leave unchanged: the entries before the sequence number `place`, the
 -- time from which quarter hours can change, and the quarter hours before that time. A copy of these
--- quarter hours, followed by the store's rows from that time on, has all rows.
+-- quarter hours, followed by the store's rows from that time on, then equals all rows of the store.
 pub record StaysBefore (further facts : List Fact) (meter : List ℕ) (opening : Opening)
     (place : ℕ) : Type 0 where
   pub entries : entries_before place (rows_of (further ++ facts) opening)
@@ -75,8 +75,9 @@ pub record StaysBefore (further facts : List Fact) (meter : List ℕ) (opening :
       ≡ rows_before from (rows_of_meter facts meter)
       ++ rows_within (Between from till) (rows_of_meter (further ++ facts) meter)
 
--- If accepted later records void (withdraw) no entry of the meter before the sequence number
--- `place`, then the meter's older quarter hours stay unchanged (`StaysBefore`).
+-- Suppose that later records void (withdraw) no entry of the meter with a sequence number below
+-- `place`. Then all quarter hours before that of the last valid entry below `place` stay unchanged
+-- (`StaysBefore`).
 abbrev pub RowsBeforeStay : Type 0
 RowsBeforeStay = (further facts : List Fact) (meter : List ℕ) (opening : Opening) (place : ℕ)
     → AreLawful (further ++ facts) → opening_of facts meter ≡ Some opening

@@ -1,5 +1,5 @@
--- The responses to queries for quarter hours or entries of a meter, or for meters at an accounting
--- register (a named counter).
+-- The responses to queries for quarter hours or entries of a meter, or for the past and present
+-- meters of an accounting register.
 use Rattle.std.specs.Prelude.{◌≡◌, ℕ, true, List, [], ◌∷◌, ◌++◌, Option, Result, Ok, Err, IfOk, OnOk, codes}
 use Rattle.std.specs.declared.alloc.Global.{Global}
 use Rattle.std.specs.declared.vec.Vec.{Vec}
@@ -15,14 +15,15 @@ use Rattle.run_http.specs.SiteReply.{with_refusal}
 use Rattle.run_http.specs.StatusRoute.{with_reply}
 use Rattle.run_http.specs.declared.kept_rows.KeptRows.{KeptRows}
 
--- The row of a quarter hour's energy is appended to the collected rows. If memory ran out for any
--- row, then `is_whole` is false.
+-- States that the row of a quarter hour's energy is appended to the collected rows. If memory ran
+-- out for this row or an earlier row, then `is_whole` is false.
 abbrev pub KeepsRow : KeptRows → Share → KeptRows → Type 0
 KeepsRow old row new = new.is_whole ≡ true
     → (old.is_whole ≡ true) × (new.rows.items ≡ old.rows.items ++ row ∷ [])
 
--- States that the program answers a query for rows from the records of its accepted events. The
--- call fails if memory for the rows runs out.
+-- The contract of a function that queries rows (such as quarter hours of a meter). The program
+-- answers the query from the records of its accepted events. The function fails if memory for the
+-- rows runs out.
 pub record AsksRows {B T : Type 0} (ledger : B → Ledger) (old new : Office B)
     (says : List Fact → Option (List T)) {E : Type 0}
     (result : Result (Result (Vec T Global) Refusal) E) : Type 0 where
@@ -39,8 +40,9 @@ with_rows_reply text (Ok rows) before =
     with_reply Fine (codes "text/plain") (text rows.items) before
 with_rows_reply text (Err why) before = with_refusal why before
 
--- The call queries the store once. Unless memory runs out, it appends the response with the rows,
--- or an error response if the program refused the query.
+-- The contract of a function that responds to a query for rows. The function queries the store
+-- once. Unless memory runs out, it then appends the rows as a response, or an error response if the
+-- program refused the query.
 pub record RepliesRows {B T : Type 0} (ledger : B → Ledger) (old new : Office B)
     (says : List Fact → Option (List T)) (text : List T → List ℕ) (from to : List ℕ) {E : Type 0}
     (result : Result (Unit {0}) E) : Type 0 where

@@ -12,7 +12,7 @@ use Rattle.run_http.specs.declared.route.RunRoute.{RunRoute}
 use Rattle.run_http.specs.declared.route.RunRoute.TheVariants.{Own, Intervals, Entries, Voids}
 use Rattle.run_http.specs.declared.route.StatusRoute.TheVariants.{Rejected}
 
--- The text after the prefix `word`, or none if the text has another beginning.
+-- The rest of the text after the prefix `word`, or None if the text does not begin with `word`.
 abbrev pub after : (word text : List ℕ) → Option (List ℕ)
 after word text =
     if bytes_eq (take (length word) text) word then Some (drop (length word) text) else None
@@ -21,13 +21,14 @@ after word text =
 abbrev pub slash_in : List ℕ → Option ℕ
 slash_in text = position (λ byte. byte == 47) text
 
--- The time span between two optional timestamps, if neither timestamp is missing.
+-- The time span between two timestamps, or None if one of the timestamps is missing.
 abbrev pub span_till : (from till : Option ℕ) → Option Span
 span_till None till = None
 span_till (Some from) None = None
 span_till (Some from) (Some till) = Some (Between from till)
 
--- The time span between two texts, if each text is a timestamp of one to nineteen digits.
+-- The time span between the timestamps in two texts. None unless each text is a timestamp of one to
+-- nineteen digits.
 abbrev pub span_of : (from till : List ℕ) → Option Span
 span_of from till = span_till (digits_in from) (digits_in till)
 
@@ -43,7 +44,8 @@ abbrev pub intervals_till : (name from till : List ℕ) → Option RunRoute
 intervals_till name from till =
     if is_some (slash_in till) then None else Some (intervals_asked name (span_of from till))
 
--- The route to quarter hours for the text after `intervals/`, split at its first slash.
+-- The route to the quarter hours of a meter, for the text `FROM/TILL` of a target. The text is
+-- split at its first slash.
 abbrev pub intervals_cut : (name text : List ℕ) → Option ℕ → Option RunRoute
 intervals_cut name text None = None
 intervals_cut name text (Some at) = intervals_till name (take at text) (drop (at + 1) text)

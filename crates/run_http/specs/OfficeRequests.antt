@@ -1,6 +1,6 @@
--- Recognizes two kinds of requests. A request for all quarter hours of a meter may get a streamed
--- response. A request to void an entry (to withdraw a false reading) can change rows of streamed
--- responses.
+-- Recognizes two kinds of requests. A request for all quarter hours of a meter can be answered with
+-- a streamed response. A request to void an entry (to withdraw a false reading) can change rows of
+-- streamed responses.
 use Rattle.std.specs.Prelude.{◌≡◌, ◌&&◌, List, ℕ, Bool, false, Option, codes, is_some}
 use Rattle.std.specs.Str.{bytes_eq}
 use Rattle.httparse.specs.Spans.{span_bytes}
@@ -20,13 +20,13 @@ abbrev pub AsksAllRows : Table → (bytes : List ℕ) → (meter : Option (List 
 AsksAllRows table bytes meter = (office : Office)
     → IsReply office table bytes (reply_bytes (lines_reply intervals_text (office.intervals meter)))
 
--- True if the request may void (withdraw) an entry of a meter. The request is then a POST to a
--- target that begins with `/meters/`.
+-- True if the request could void (withdraw) an entry of a meter, because it is a POST to a target
+-- that begins with `/meters/`.
 abbrev pub may_void_by : (method target : List ℕ) → Bool
 may_void_by method target =
     bytes_eq method (codes "POST") && is_some (after (codes "/meters/") target)
 
--- True if the bytes hold a complete head of a request that may void (withdraw) an entry.
+-- True if the bytes hold a complete head of a request that could void (withdraw) an entry.
 abbrev pub may_void_in : (bytes : List ℕ) → HeadState → Bool
 may_void_in bytes Open = false
 may_void_in bytes TooLarge = false
@@ -34,7 +34,8 @@ may_void_in bytes NoHead = false
 may_void_in bytes (Whole at) =
     may_void_by (span_bytes bytes at.method) (span_bytes bytes at.target)
 
--- The result is true if the bytes hold the head of a request that may void (withdraw) an entry.
+-- States that `result` is true exactly if the bytes hold the head of a request that could void
+-- (withdraw) an entry.
 pub record MayVoid (bytes : List ℕ) (result : Bool) : Type 0 where
   pub head_state : HeadState
   pub looks : Looks bytes head_state

@@ -1,6 +1,6 @@
--- Responses with quarter hours of a meter that are streamed in chunks, so that no complete response
--- is in memory. Defines the remaining part of a response after each chunk, and states that later
--- records do not change it.
+-- Responses that contain the quarter hours of a meter and are streamed in chunks, so that no
+-- complete response is in memory. Defines the remaining part of a response after each chunk, and
+-- states that later records do not change this part.
 use Rattle.std.specs.Prelude.{◌≡◌, ℕ, ◌+◌, ◌-◌, ◌<◌, ◌≤◌, min, max, List, [], ◌∷◌, ◌++◌, length, All, flat_map, codes, nat_lt, Bool, true, Option, Some, None, Result, Ok, Err}
 use Rattle.std.specs.Option.{option_and_then}
 use Rattle.std.specs.declared.alloc.Global.{Global}
@@ -35,13 +35,13 @@ use Rattle.run_http.specs.declared.row_sizes.Sizes.{Sizes}
 abbrev pub rows_between : List Fact → (meter : Option (List ℕ)) → (from till : ℕ) → List Share
 rows_between facts meter from till = rows_in (intervals_within facts meter (Between from till))
 
--- The rows that are still to be written: the rows not yet queried, followed by the last rows, which
--- were copied into memory when the response began.
+-- The rows of a streamed response that are still to be written: first the rows not yet queried,
+-- then the last rows, which were copied into memory when the response began.
 abbrev pub rows_left : List Fact → RemainingRows → List Share
 rows_left facts left = rows_between facts left.meter left.from left.till ++ left.last.items
 
--- The text that is still to be written: the lines of the remaining rows, and the line with the
--- number of all rows.
+-- The text of a streamed response that is still to be written: the lines of the remaining rows, and
+-- the line with the number of all rows.
 abbrev pub text_left : List Fact → RemainingRows → List ℕ
 text_left facts left =
     flat_map share_line (rows_left facts left)
@@ -56,15 +56,16 @@ abbrev pub last_quarter : Option Installation → ℕ
 last_quarter None = 0
 last_quarter (Some it) = quarter_of it.last.at
 
--- The rows still to be queried start before the quarter hour of the meter's last entry, so no new
--- entry changes them while the response is sent.
+-- States that the rows still to be queried start before the quarter hour of the meter's last entry.
+-- No new entry changes these rows while the response is sent.
 abbrev pub IsSettled : List Fact → RemainingRows → Type 0
 IsSettled facts left =
     left.from < left.till
     → left.till ≤ last_quarter (option_and_then (meter_of facts) left.meter)
 
--- If later records void (withdraw) no entry that the meter has now, they do not change the text
--- still to be written. All chunks then belong to the time at which the response began.
+-- If later records void (withdraw) no entry that the meter has now, the text that a streamed
+-- response still has to send does not change. All its chunks then show the rows as of the beginning
+-- of the response.
 abbrev pub TextStays : Type 0
 TextStays = (further facts : List Fact) (meter : List ℕ) (opening : Opening) (left : RemainingRows)
     → AreLawful (further ++ facts) → opening_of facts meter ≡ Some opening
@@ -72,7 +73,7 @@ TextStays = (further facts : List Fact) (meter : List ℕ) (opening : Opening) (
     → All (VoidsFrom meter (next_place facts opening)) further
     → text_left (further ++ facts) left ≡ text_left facts left
 
--- Definitions on the beginning of a streamed response.
+-- Definitions on the start of a streamed response.
 
 -- The start of the rows to query: `from`, or the quarter hour of the meter's opening (the first
 -- entry) if that is later.
@@ -80,7 +81,8 @@ abbrev pub first_asked : Installation → (from : ℕ) → ℕ
 first_asked it from = max from (quarter_of it.opening.at)
 
 -- The end of the rows that are queried chunk by chunk: `till`, or the quarter hour of the meter's
--- last entry if that is earlier. New entries change no row before that quarter hour.
+-- last entry if that is earlier, but not before their start. New entries change no row before that
+-- quarter hour.
 abbrev pub end_of_streamed : Installation → (from till : ℕ) → ℕ
 end_of_streamed it from till = max (first_asked it from) (min till (quarter_of it.last.at))
 
@@ -88,15 +90,15 @@ end_of_streamed it from till = max (first_asked it from) (min till (quarter_of i
 abbrev pub is_long_response : Installation → (from till seconds : ℕ) → Bool
 is_long_response it from till seconds = nat_lt seconds (end_of_streamed it from till - first_asked it from)
 
--- The written bytes, followed by the remaining text, are the response with all requested rows.
--- Later entries do not change the remaining text.
+-- States that the written bytes, followed by the text still to be sent, are the response with all
+-- requested rows. Later entries do not change the text still to be sent.
 pub record IsBegun (facts : List Fact) (meter : List ℕ) (from till : ℕ)
     (reply : List Share → List ℕ) (put : List ℕ) (left : RemainingRows) : Type 0 where
   pub reports : put ++ text_left facts left ≡ reply (rows_between facts (Some meter) from till)
   pub settled : IsSettled facts left
 
--- The result of beginning a streamed response, if `it` is the meter's present state in the store.
--- The response has begun as `IsBegun` says, or the store failed, or memory ran out.
+-- The result of starting a streamed response, if `it` is the meter's present state in the store.
+-- The response has started as `IsBegun` says, or the store failed, or memory ran out.
 abbrev pub AreBegun : {B E : Type 0} → (B → Ledger) → (old new : Office B) → Installation
     → (from till : ℕ) → (reply : List Share → List ℕ) → (put : List ℕ)
     → (answer : Result (Unit {0}) Refusal) → Result (Result RemainingRows Refusal) E → Type 0
@@ -110,8 +112,8 @@ AreBegun ledger old new it from till reply put answer (Ok (Err why)) =
     → IsOutside ⊥ (failures_of ledger old) (failures_of ledger new) why)
 AreBegun ledger old new it from till reply put answer (Err fault) = Unit {0}
 
--- The call begins a streamed response with the quarter hours of a meter, as `AreBegun` says. It
--- only queries the store, and changes no record.
+-- The contract of a function that starts to stream a response that contains the quarter hours of a
+-- meter, as `AreBegun` says. The function only queries the store, and changes no record.
 pub record BeginsReply {B : Type 0} (ledger : B → Ledger) (old new : Office B) (it : Installation)
     (from till : ℕ) (reply : List Share → List ℕ) (put : List ℕ) {E : Type 0}
     (result : Result (Result RemainingRows Refusal) E) : Type 0 where
@@ -119,7 +121,8 @@ pub record BeginsReply {B : Type 0} (ledger : B → Ledger) (old new : Office B)
   pub asks : OnlyAsks ledger old new answer
   pub begins : AreBegun ledger old new it from till reply put answer result
 
--- A complete response with rows, whose head contains the size of its body.
+-- A complete response with rows of quarter hours. The head of the response contains the size of its
+-- body.
 abbrev pub with_rows : List ℕ → List Share → List ℕ
 with_rows text rows = with_reply Fine (codes "text/plain") (intervals_text rows) text
 
@@ -130,7 +133,7 @@ with_all_rows text rows = text ++ reply_bytes (lines_reply intervals_text (Ok ro
 
 -- Definitions on the size of a streamed response.
 
--- The sizes are the number of bytes in the rows' lines, and the number of rows.
+-- States that `sizes` has the number of bytes in the rows' lines, and the number of rows.
 abbrev pub AreSizes : Sizes → List Share → Type 0
 AreSizes sizes rows =
     (sizes.bytes ≡ length (flat_map share_line rows)) × (sizes.count ≡ length rows)
@@ -142,8 +145,8 @@ SizesRow old row new = new.is_whole ≡ true
     → (old.is_whole ≡ true) × (new.sizes.bytes ≡ old.sizes.bytes + length (share_line row))
     × (new.sizes.count ≡ old.sizes.count + 1)
 
--- The result has the sizes of the rows that are still to be queried, unless the store failed or
--- memory ran out.
+-- States that, unless the store failed or memory ran out, the result has the sizes of the rows that
+-- are still to be queried.
 abbrev pub AreSized : {B E : Type 0} → (B → Ledger) → (old new : Office B) → RemainingRows
     → (answer : Result (Unit {0}) Refusal) → Result (Result Sizes Refusal) E → Type 0
 AreSized ledger old new left answer (Ok (Ok sizes)) =
@@ -156,8 +159,8 @@ AreSized ledger old new left answer (Ok (Err why)) =
     (failures_of ledger old) (failures_of ledger new) answer)
 AreSized ledger old new left answer (Err fault) = Unit {0}
 
--- The size in bytes of a response's body, for its Content-Length. `sizes` are the sizes of the rows
--- that are still to be queried.
+-- The size in bytes of a streamed response's body, for the header Content-Length. `sizes` are the
+-- sizes of the rows that are still to be queried.
 abbrev pub body_size : RemainingRows → Sizes → ℕ
 body_size left sizes =
     sizes.bytes
@@ -168,8 +171,8 @@ body_size left sizes =
 abbrev pub with_head : (size : ℕ) → List ℕ → List ℕ
 with_head size text = with_start_of Fine (codes "text/plain") size text ++ codes "\r\n\r\n"
 
--- The call queries the store for the rows that are still to be written. Its result is the sizes of
--- these rows.
+-- The contract of a function that queries those rows of a streamed response that were not queried
+-- yet. The function returns the number of these rows and the size of their lines.
 pub record SizesRows {B : Type 0} (ledger : B → Ledger) (old new : Office B) (left : RemainingRows)
     {E : Type 0} (result : Result (Result Sizes Refusal) E) : Type 0 where
   pub answer : Result (Unit {0}) Refusal
@@ -178,9 +181,11 @@ pub record SizesRows {B : Type 0} (ledger : B → Ledger) (old new : Office B) (
 
 -- Definitions on the chunks of a streamed response.
 
--- The progress of a streamed response by one chunk, whose rows start within the next `seconds`
--- seconds. If rows were still to be queried, then fewer rows are left. The meter and the end of the
--- rows stay the same.
+-- States how one chunk advances a streamed response. The rows of the chunk start within the next
+-- `seconds` seconds.
+--
+-- If a time span was still to be queried and `seconds` is not 0, then a shorter span is left. The
+-- response's meter and the end of its time span stay the same.
 pub record MovesOn (left later : RemainingRows) (seconds : ℕ) : Type 0 where
   pub meter : later.meter ≡ left.meter
   pub till : later.till ≡ left.till
@@ -188,8 +193,8 @@ pub record MovesOn (left later : RemainingRows) (seconds : ℕ) : Type 0 where
   pub none : left.till ≤ left.from → later.till ≤ later.from
   pub few : later.from ≤ left.from + seconds
 
--- The written bytes and the remaining text together are the same before and after the chunk, unless
--- the store failed or memory ran out.
+-- States that the written bytes and the remaining text together are the same before and after the
+-- chunk. The exceptions are a failed store and lack of memory.
 abbrev pub HasReported : {B E : Type 0} → (B → Ledger) → (old new : Office B)
     → (answer : Result (Vec Share Global) Refusal) → (left later : RemainingRows) → (seconds : ℕ)
     → (from to : List ℕ) → Result (Result (Unit {0}) Refusal) E → Type 0
@@ -200,8 +205,8 @@ HasReported ledger old new answer left later seconds from to (Ok (Ok done)) =
 HasReported ledger old new answer left later seconds from to (Ok (Err why)) = answer ≡ Err why
 HasReported ledger old new answer left later seconds from to (Err fault) = Unit {0}
 
--- The call queries the store for the rows of one chunk, and writes the lines of these rows to the
--- response.
+-- The contract of a function that sends one chunk. The function queries the rows of the chunk from
+-- the store, and writes their lines to the streamed response.
 pub record ReportsOn {B : Type 0} (ledger : B → Ledger) (old new : Office B) (left later : RemainingRows)
     (seconds : ℕ) (from to : List ℕ) {E : Type 0} (result : Result (Result (Unit {0}) Refusal) E)
     : Type 0 where
@@ -209,8 +214,9 @@ pub record ReportsOn {B : Type 0} (ledger : B → Ledger) (old new : Office B) (
   pub asks : OnlyAsks ledger old new answer
   pub reports : HasReported ledger old new answer left later seconds from to result
 
--- If all rows were queried, then the call writes the remaining text of the response: the copied
--- last rows, and the line with the number of rows.
+-- The contract of a function that ends a streamed response. If no rows are left to query, the
+-- function writes the remaining text: the last rows, which were copied into memory, and the line
+-- with the number of rows.
 abbrev pub ReportsRest : RemainingRows → (from to : List ℕ) → Type 0
 ReportsRest left from to =
     (facts : List Fact) → left.till ≤ left.from → to ≡ from ++ text_left facts left
@@ -224,20 +230,20 @@ pub record Piece : Type 0 where
   pub later : RemainingRows
   pub text : List ℕ
 
--- The state of a streamed response after the chunks in the list, whose first element is the latest
--- chunk.
+-- The rows that a streamed response still has to send after the chunks in the list, whose first
+-- element is the latest chunk.
 abbrev pub left_after : RemainingRows → List Piece → RemainingRows
 left_after left [] = left
 left_after left (piece ∷ earlier) = piece.later
 
--- The text of a streamed response after the chunks in the list, whose first element is the latest
--- chunk.
+-- The text that a streamed response has written after the chunks in the list, whose first element
+-- is the latest chunk.
 abbrev pub text_after : List ℕ → List Piece → List ℕ
 text_after text [] = text
 text_after text (piece ∷ earlier) = piece.text
 
--- A chunk has the next rows of a streamed response. The records that were added since the response
--- began void no meter entry that existed at its beginning.
+-- States that the chunk has the next rows of a streamed response. Also requires that no record
+-- added since the response began voids (withdraws) an entry that the meter had then.
 pub record IsPiece (facts : List Fact) (meter : List ℕ) (opening : Opening) (left : RemainingRows)
     (text : List ℕ) (piece : Piece) : Type 0 where
   pub lawful : AreLawful (piece.further ++ facts)
@@ -247,8 +253,8 @@ pub record IsPiece (facts : List Fact) (meter : List ℕ) (opening : Opening) (l
   pub reports : piece.text ++ text_left (piece.further ++ facts) piece.later
       ≡ text ++ text_left (piece.further ++ facts) left
 
--- Each chunk in the list continues the response after the chunks sent before. The list has the
--- latest chunk first.
+-- States that each chunk in the list continues the streamed response after the chunks sent before.
+-- The list has the latest chunk first.
 abbrev pub ArePieces : List Fact → (meter : List ℕ) → Opening → RemainingRows → (text : List ℕ)
     → List Piece → Type 0
 ArePieces facts meter opening left text [] = Unit {0}
@@ -257,7 +263,7 @@ ArePieces facts meter opening left text (piece ∷ earlier) =
     × ArePieces facts meter opening left text earlier
 
 -- If no record added between chunks voids (withdraws) an entry that the meter had at the beginning,
--- then the chunks together are complete. The written text and the remaining text are then the
+-- then the chunks form one response. The written text and the remaining text together are then the
 -- response as of its beginning.
 abbrev pub PiecesAreWhole : Type 0
 PiecesAreWhole = (facts : List Fact) (meter : List ℕ) (opening : Opening) (left : RemainingRows)

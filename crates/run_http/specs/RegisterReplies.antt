@@ -23,14 +23,15 @@ use Rattle.office_core.specs.declared.office.Office.{Office}
 use Rattle.run_http.specs.SiteReply.{with_refusal}
 use Rattle.run_http.specs.StatusRoute.{with_reply}
 
--- The call writes the remaining text of an energy report, unless memory runs out.
+-- States that a function writes the remaining text of an energy report, unless memory runs out.
 pub record PutsLast {W E : Type 0} (contents : W → Option (List ℕ))
     (result : Result (Result (Unit {0}) Refusal) E) (old new : ReportRows W) : Type 0 where
   pub finishes : Finishes contents old new
   pub whole : OnOk result (new.failed ≡ false)
 
--- The condition `Is` holds for the text of the report on a register's daily energy. The report
--- covers the range of days that the query names, in the site's time zone.
+-- States that the condition `Is` holds for the text of a report on the daily energy of an
+-- accounting register. The report covers the range of days that the query names, in the site's time
+-- zone.
 abbrev pub IsReport : Zone → History → (register : Option (List ℕ)) → ReportForm
     → (Is : List ℕ → Type 0) → Type 0
 IsReport zone past register form Is =
@@ -38,10 +39,10 @@ IsReport zone past register form Is =
     × AreDaysWithin zone (facts_of past) register form.range (map account_of days)
     × Is (report_text form days)
 
--- Either the call writes the energy report, or its answer is a refusal. A refusal means that no
--- accounting register has the name, or the store or memory failed, or an earlier failure makes the
--- program refuse all events. The program allocates memory only for the days of a register that
--- exists.
+-- States that a function writes the energy report, or the program refuses the query. Causes of a
+-- refusal: no accounting register has the name, the store or memory failed, or an earlier failure
+-- makes the program refuse all events. The program allocates memory only for the days of a register
+-- that exists.
 pub record ReportsDays (zone : Zone) (past : History) (register : Option (List ℕ))
     (form : ReportForm) (before after : Failures) (answer : Result (Unit {0}) Refusal)
     (Is : List ℕ → Type 0) : Type 0 where
@@ -57,8 +58,8 @@ ReportsDaysReport ledger old new register form answer Is = After ledger old new
     (λ past. ReportsDays (ledger (books_in old)).zone past register form
     (failures_of ledger old) (failures_of ledger new) answer Is)
 
--- The call queries the store once and writes the energy report, unless memory for the report runs
--- out.
+-- The contract of a function that queries the store once and writes the energy report, unless
+-- memory for the report runs out.
 pub record AsksEnergy {B : Type 0} (ledger : B → Ledger) (old new : Office B)
     (register : Option (List ℕ)) (form : ReportForm) (had holds : Option (List ℕ)) {E : Type 0}
     (result : Result (Result (Unit {0}) Refusal) E) : Type 0 where
@@ -72,8 +73,9 @@ abbrev pub with_energy_reply : Result (Unit {0}) Refusal → (report : List ℕ)
 with_energy_reply (Ok done) report text = with_reply Fine (codes "text/plain") report text
 with_energy_reply (Err why) report text = with_refusal why text
 
--- The call queries the store once. Unless memory runs out, it appends the response with the report,
--- or an error response if the program refused the query.
+-- The contract of a function that responds to a query for energy. The function queries the store
+-- once. Unless memory runs out, it then appends the report as a response, or an error response if
+-- the program refused the query.
 pub record RepliesEnergy {B : Type 0} (ledger : B → Ledger) (old new : Office B)
     (register : Option (List ℕ)) (form : ReportForm) (from to : List ℕ) {E : Type 0}
     (result : Result (Unit {0}) E) : Type 0 where

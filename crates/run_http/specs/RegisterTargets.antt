@@ -1,6 +1,6 @@
--- The request targets for an accounting register. `/registers/NAME/days/FROM/TILL` returns its
--- energy on the days from FROM on and before TILL. `/registers/NAME/months` returns the energy of
--- all days by month. `/registers/NAME/meters` returns the present and earlier meters.
+-- The request targets for an accounting register. `/registers/NAME/days/FROM/TILL` returns the
+-- register's energy on the days from FROM on and before TILL. `/registers/NAME/months` returns the
+-- energy of all days by month. `/registers/NAME/meters` returns the present and earlier meters.
 use Rattle.std.specs.Prelude.{◌≡◌, ◌⊎◌, ℕ, ◌+◌, Bool, true, false, List, take, drop, bytes_eq, is_some, Option, Some, None, codes}
 use Rattle.jiff_core.specs.declared.civil.date.Date.{Date}
 use Rattle.energy_report.specs.Days.{IsReadAs, Spells}
@@ -20,19 +20,19 @@ use Rattle.run_http.specs.declared.route.StatusRoute.TheVariants.{Rejected}
 
 -- Definitions on ranges of days in request targets.
 
--- The range of days from `first` on and before `last`.
+-- The range of days that begins with `first` and ends before `last`.
 abbrev pub from_till : (first last : Date) → DayRange
 from_till first last = record { from = Some first; till = Some last }
 
--- The two texts are the days at the ends of the range. `backward` is true if the second day is
--- before the first.
+-- States that the two texts spell the first day and the end day of the range. `backward` is true if
+-- the end day is before the first day.
 abbrev pub SpellRange : (from till : List ℕ) → DayRange → (backward : Bool) → Type 0
 SpellRange from till range backward =
     (first last : Date) × Spells from first × Spells till last × (range ≡ from_till first last)
     × (is_backward range ≡ backward)
 
--- The range between the days in two texts. None if a text is no day, or if the second day is before
--- the first.
+-- The range of days that two texts spell: it begins with the first day and ends before the second.
+-- None if a text does not spell a day, or if the second day is before the first.
 abbrev pub IsRangeOf : (from till : List ℕ) → Option DayRange → Type 0
 IsRangeOf from till (Some range) = SpellRange from till range false
 IsRangeOf from till None =
@@ -47,7 +47,7 @@ lines_of range period =
     record { range = range; period = period; unit = MilliwattHours; format = Text }
 
 -- The route to the daily energy in a range of days, or status 400 if the target has no valid range.
--- An invalid name matches no register.
+-- No accounting register has an invalid name.
 abbrev pub days_asked : (name : List ℕ) → Option DayRange → RunRoute
 days_asked name None = Own (Rejected BadRequest)
 days_asked name (Some range) = Energy (named name) (lines_of range period.Day)

@@ -16,7 +16,8 @@ use Rattle.run_http.specs.StatusRoute.{with_reply}
 use Rattle.run_http.specs.Texts.SiteText.{with_site}
 use Rattle.run_http.specs.declared.texts.site.SiteLine.{SiteLine}
 
--- The response that reports the program's refusal of a query, with its status and number.
+-- The response that reports the program's refusal of a query, with its HTTP status and the numeric
+-- code of the refusal.
 abbrev pub with_refusal : Refusal → List ℕ → List ℕ
 with_refusal why text =
     with_reply (status_of why) (codes "application/json") (refused_text (refusal_number why)) text
@@ -28,8 +29,9 @@ with_site_reply at (Ok lines) text =
     with_reply Fine (codes "application/json") (with_site [] at lines.items) text
 with_site_reply at (Err why) text = with_refusal why text
 
--- The call queries the store once for its accounting registers and meters. Unless memory runs out,
--- it appends the response with them, or an error response if the program refused the query.
+-- The contract of a function that queries the store once for its accounting registers and meters.
+-- Unless memory runs out, the function then appends the response with them, or an error response if
+-- the program refused the query.
 pub record RepliesSite {B : Type 0} (ledger : B → Ledger) (old new : Office B)
     (reply : Result (Vec SiteRow Global) Refusal → List ℕ → List ℕ) (from to : List ℕ)
     {E : Type 0} (result : Result (Unit {0}) E) : Type 0 where

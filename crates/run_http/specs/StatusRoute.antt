@@ -36,8 +36,8 @@ path_named target =
     else if bytes_eq target (codes "/site") then Some Site
     else option_map (λ part. Own (Page part)) (part_of target)
 
--- The route of a target. If it is no fixed path such as `/status`, then the target may request
--- quarter hours or entries of a meter.
+-- The route of a request target. A target that is no fixed path (such as `/status`) can still
+-- request quarter hours or entries of a meter.
 abbrev pub or_meter : (target : List ℕ) → Option RunRoute → Option RunRoute
 or_meter target None = meter_target target
 or_meter target (Some route) = Some route
@@ -47,8 +47,8 @@ or_meter target (Some route) = Some route
 abbrev pub plain_target : (target : List ℕ) → Option RunRoute
 plain_target target = or_meter target (path_named target)
 
--- The route of a request target. A target that is no fixed path and does not request a meter's rows
--- may still request the energy or the meters of an accounting register (a named counter).
+-- The route of a request target. A target that requests no fixed path and no rows of a meter can
+-- still request the energy or the meters of an accounting register.
 abbrev pub IsElse : (target : List ℕ) → Option RunRoute → Option RunRoute → Type 0
 IsElse target None route = IsRegisterTarget target route
 IsElse target (Some plain) route = route ≡ Some plain
@@ -115,8 +115,8 @@ abbrev pub IsPermitted : List ℕ → HeadState → Option RunRoute → Type 0
 IsPermitted bytes head_state route =
     IsPermittedUnless (is_forbidden bytes head_state) bytes head_state route
 
--- The route of the request, or status 421 if its host was rejected. `may` says whether the host was
--- accepted.
+-- The route of the request, or status 421 if the request's host name was rejected. `may` says
+-- whether the host name was accepted.
 abbrev pub IsRunRoute : (may : Bool) → List ℕ → HeadState → Option RunRoute → Type 0
 IsRunRoute true bytes head_state route = IsPermitted bytes head_state route
 IsRunRoute false bytes head_state route = route ≡ Some (Own (Rejected Misdirected))
@@ -139,7 +139,7 @@ is_energy (Some (Voids meter)) = false
 is_energy (Some (Energy register form)) = true
 is_energy (Some (Meters register)) = false
 
--- The result says whether the bytes request the energy of an accounting register.
+-- States that `result` is true exactly if the bytes request the energy of an accounting register.
 pub record AsksEnergy (names : List (List ℕ)) (bytes : List ℕ) (result : Bool) : Type 0 where
   pub route : Option RunRoute
   pub for : IsFor names bytes route

@@ -1,5 +1,5 @@
--- The voided entries of a meter: entries that were withdrawn as false. They stay in the store and
--- no longer count.
+-- Defines the voided entries of a meter: entries that were withdrawn as false. They stay in the
+-- store and no longer count.
 use Rattle.std.specs.Prelude.{ℕ, Bool, false, not, List, filter, Option, Some}
 use Rattle.std.specs.Option.{option_map, option_and_then}
 use Rattle.office_events.specs.declared.facts.Fact.{Fact}

@@ -16,7 +16,7 @@ pub enum ClientResponse {
     /// The bytes of the response. The response is cut off if the store failed while rows were
     /// written.
     Replied(Vec<u8>),
-    /// Memory for the response ran out, or the request took too many reads.
+    /// Memory for the response ran out, or the request took too many reads of the connection.
     Failed,
 }
 

@@ -36,7 +36,7 @@ fn first_line_end(reply: &[u8]) -> Option<usize>
     reply.iter().position(|byte| *byte == b'\n')
 }
 
-// Inserts headers after the status line of a response.
+// Returns a copy of a response with the headers `more` inserted after its status line.
 fn with_headers(alloc: Global, more: &[u8], reply: &[u8]) -> Result<Vec<u8>, AllocError>
     ensures { IfOk result (λ reported. reported.items ≡ browsers.with_headers more.now reply.now) }
 {
@@ -49,11 +49,11 @@ fn with_headers(alloc: Global, more: &[u8], reply: &[u8]) -> Result<Vec<u8>, All
     Ok(reported)
 }
 
-/// Adds to a response the headers that protect users of browsers.
+/// Adds to a response the headers that protect users of browsers. With these headers, a browser
+/// does not guess the type of the body, and other sites cannot use the body.
 ///
-/// With these headers, a browser does not guess the type of the body, and other sites cannot use
-/// the body. Only parts of the web page may be cached. `names` are the server's host names. Fails
-/// if memory runs out.
+/// Only parts of the web page may be cached. `names` are the server's host names, by which the
+/// request's route is found. Fails if memory runs out.
 pub fn for_browsers(
     alloc: Global,
     names: &[&str],

@@ -3,8 +3,8 @@ use interval_core::Share;
 use office_books::RowSink;
 use std::alloc::{AllocError, Global};
 
-/// The interval rows (energy of quarter hours) received so far. `is_whole` is false after memory
-/// ran out for a row.
+/// The interval rows (energy of quarter hours) received so far. `is_whole` is false if memory ran
+/// out for a row.
 #[derive(Drop)]
 pub struct KeptRows {
     rows: Vec<Share>,
@@ -14,7 +14,7 @@ pub struct KeptRows {
 impl KeptRows {
     ghost use Rattle.std.specs.Prelude.{◌≡◌, [], true, IfOk};
 
-    /// Makes a row visitor that has received no rows.
+    /// Makes an empty collection of interval rows.
     pub fn new(alloc: Global) -> KeptRows
         ensures none { result.rows.items ≡ [] }
         ensures whole { result.is_whole ≡ true }

@@ -9,7 +9,7 @@ use interval_core::shares_add_up;
 /// Suppose no later record voids (withdraws) an entry below a given sequence number. Consider the
 /// last valid entry below that number, and its quarter hour. All earlier quarter hours are
 /// unchanged. So a copy of the earlier quarter hours, and the server's rows from that quarter hour
-/// on, are complete.
+/// on, are together complete.
 pub fn rows_before_stay()
     ensures { RowsBeforeStay }
 {

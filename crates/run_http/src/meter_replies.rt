@@ -58,8 +58,8 @@ fn write_reported_intervals(
     }
 }
 
-/// Queries the quarter hours of a meter, and appends the response. If memory runs out, a part of
-/// the response remains.
+/// Queries the quarter hours of a meter, and appends the response. If memory runs out, only a part
+/// of the response was appended.
 pub fn reply_intervals<B: Books>(
     alloc: Global,
     text: &mut Vec<u8>,
@@ -96,7 +96,7 @@ fn write_reported_entries(
 }
 
 /// Queries at most 4,096 entries of a meter, beginning at a sequence number, and appends the
-/// response. If memory runs out, a part of the response remains.
+/// response. If memory runs out, only a part of the response was appended.
 pub fn reply_entries<B: Books>(
     alloc: Global,
     text: &mut Vec<u8>,

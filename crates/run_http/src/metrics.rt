@@ -35,7 +35,7 @@ fn append_answer(
 }
 
 /// Queries the open meters, and appends the response with their energy and the counts. If memory
-/// runs out, a part of the response remains.
+/// runs out, only a part of the response was appended.
 pub fn reply_metrics<B: Books>(
     alloc: Global,
     text: &mut Vec<u8>,

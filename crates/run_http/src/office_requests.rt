@@ -1,6 +1,6 @@
-//! Recognizes two kinds of requests. A request for all quarter hours of a meter may get a streamed
-//! response. A request to void an entry (to withdraw a false reading) can change rows of streamed
-//! responses.
+//! Recognizes two kinds of requests. A request for all quarter hours of a meter can be answered
+//! with a streamed response. A request to void an entry (to withdraw a false reading) can change
+//! rows of streamed responses.
 ghost use Rattle.std.specs.Prelude.{◌≡◌, IfSome};
 ghost use Rattle.office_http.specs.Messages.Head.Heads.{Looks};
 ghost use Rattle.office_http.specs.declared.messages.head.head.HeadState.TheVariants.{Whole};
@@ -14,7 +14,8 @@ use office_http::messages::{
     Ask, Head, HeadState, Route, ask_of, name_asked, parse_head, questions_are_replied_to,
 };
 
-// Returns the meter if the complete head requests all quarter hours of a meter.
+// Returns the name of the meter if the request asks for all quarter hours of a meter. The head of
+// the request must be complete.
 fn meter_asked(
     router: &Router<Route>,
     request: &[u8],
@@ -37,8 +38,8 @@ fn meter_asked(
     }
 }
 
-/// Returns the meter if a request asks for all quarter hours of a meter. `Some(None)` means an
-/// invalid meter name.
+/// Returns the name of the meter if a request asks for all quarter hours of a meter. `Some(None)`
+/// means that the name is not valid.
 pub fn all_rows_asked(router: &Router<Route>, request: &[u8]) -> Option<Option<Name>>
     ensures { IfSome result (AsksAllRows router.now request.now) }
 {
@@ -55,7 +56,8 @@ fn may_void_by(method: &[u8], target: &[u8]) -> bool
     method == b"POST".as_slice() && after(b"/meters/", target).is_some()
 }
 
-/// Returns whether a request may void (withdraw) an entry of a meter.
+/// Returns whether a request could void (withdraw) an entry of a meter, because it is a POST to a
+/// target that begins with `/meters/`.
 pub fn may_void(request: &[u8]) -> bool
     ensures { MayVoid request.now result }
 {

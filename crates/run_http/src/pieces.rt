@@ -20,16 +20,15 @@ use office_events::{Installation, Name, Refusal};
 use office_http::messages::Status;
 use std::alloc::{AllocError, Global};
 
-/// The remaining part of a streamed response with quarter hours of a meter.
+/// The remaining part of a response that streams the quarter hours of a meter.
 #[derive(Drop)]
 pub struct RemainingRows {
     meter: Option<Name>,
-    /// The start of the rows that are still to be queried. They start at `from` or later and before
-    /// `till`.
+    /// The rows that are still to be queried start at `from` or later and before `till`.
     from: u64,
     till: u64,
     /// The last rows of the response. They are copied when the response begins, because new entries
-    /// may change these rows in the store.
+    /// can change these rows in the store.
     last: Vec<Share>,
     /// The number of rows of the response that were already written.
     reported: usize,
@@ -41,8 +40,8 @@ fn quarter_of(moment: u64) -> u64
     moment - moment % INTERVAL_SECONDS
 }
 
-// Returns the start of the first row to query: `from`, or the meter's first quarter hour if that is
-// later.
+// Returns the start of the time span to query: `from`, or the start of the meter's first quarter
+// hour if that is later.
 fn first_asked(it: &Installation, from: u64) -> u64
     ensures { result ≡ pieces.first_asked it.now from }
 {
@@ -65,7 +64,7 @@ pub fn is_long_response(it: &Installation, from: u64, till: u64, seconds: u64) -
     end_of_streamed(it, from, till).saturating_sub(first_asked(it, from)) > seconds
 }
 
-// Queries the last rows of a response, which new entries may change, and keeps these rows in
+// Queries the last rows of a response, which new entries can change, and keeps these rows in
 // memory. All other rows are queried later, chunk by chunk.
 fn begin_rows<B: Books>(
     alloc: Global,
@@ -94,8 +93,8 @@ fn begin_rows<B: Books>(
     }
 }
 
-// Queries the rows that are still to be written, and measures their lines for the response's
-// Content-Length.
+// Queries those rows of a streamed response that were not queried yet, and measures their lines for
+// the response's Content-Length.
 fn ask_sizes<B: Books>(
     alloc: Global,
     office: &mut Office<B>,
@@ -148,11 +147,11 @@ fn write_head(text: &mut Vec<u8>, size: usize) -> Result<(), AllocError>
     append_bytes(text, b"\r\n\r\n")
 }
 
-/// Begins a streamed response with the quarter hours of a meter that start at `from` or later and
-/// before `till`.
+/// Starts to stream a response that contains the quarter hours of a meter from `from` on and before
+/// `till`. `it` is the meter as the program reports it now.
 ///
-/// `it` is the meter as the program reports it now. The function appends the head, which contains
-/// the size of the body. If memory runs out, a part of the head remains.
+/// The function appends the response's head, which contains the size of the body. If memory runs
+/// out, only a part of the head was appended.
 pub fn begin_intervals<B: Books>(
     alloc: Global,
     text: &mut Vec<u8>,
@@ -189,7 +188,7 @@ fn write_text_head(text: &mut Vec<u8>) -> Result<(), AllocError>
     )
 }
 
-/// Begins a streamed response with all quarter hours of a meter. The response has no
+/// Starts to stream a response that contains all quarter hours of a meter. The response has no
 /// `Content-Length`.
 pub fn begin_all_intervals<B: Books>(
     alloc: Global,
@@ -225,7 +224,8 @@ fn piece_end(from: u64, till: u64, seconds: u64) -> u64
     }
 }
 
-// Appends the lines of a chunk's rows. The rows of the next chunk then start at `till`.
+// Appends the lines of a chunk's rows to a streamed response. The rows of the next chunk then start
+// at `till`.
 fn add_piece(
     text: &mut Vec<u8>,
     left: &mut RemainingRows,
@@ -245,15 +245,16 @@ fn add_piece(
     Ok(())
 }
 
-/// Returns whether some rows of the response are still to be queried.
+/// Returns whether some rows of the streamed response are still to be queried.
 pub fn has_more(left: &RemainingRows) -> bool
     ensures { result ≡ pieces.has_more left.now }
 {
     left.from < left.till
 }
 
-/// Queries the next rows of a response, which start within `seconds` seconds, and appends their
-/// lines. If memory runs out, a part of the lines remains.
+/// Queries the next rows of a streamed response, which start within the next `seconds` seconds of
+/// its time span, and appends their lines. If memory runs out, only a part of these lines was
+/// appended.
 pub fn write_next_rows<B: Books>(
     alloc: Global,
     text: &mut Vec<u8>,
@@ -281,17 +282,17 @@ pub fn write_next_rows<B: Books>(
     }
 }
 
-// Returns the number of rows in the complete response, when only the copied last rows are left to
-// write.
+// Returns the number of rows in the complete response. All rows except the copied last rows must
+// already be written. Returns `None` if the number overflows.
 fn count_of(left: &RemainingRows) -> Option<usize>
     ensures { IfSome result (λ count. count ≡ left.now.reported + length left.now.last.items) }
 {
     left.reported.checked_add(left.last.len())
 }
 
-/// Appends the last rows of a response, which were copied when the response began, and the line
-/// with the number of all rows. All other rows must already be written. If memory runs out, a part
-/// of the text remains.
+/// Appends the last rows of a streamed response, which were copied when the response began, and the
+/// line with the number of all rows. All other rows must already be written. If memory runs out,
+/// only a part of the text was appended.
 pub fn write_last_rows(text: &mut Vec<u8>, left: &RemainingRows) -> Result<(), AllocError>
     ensures { OnOk result (ReportsRest left.now text.old.items text.new.items) }
 {
@@ -302,7 +303,7 @@ pub fn write_last_rows(text: &mut Vec<u8>, left: &RemainingRows) -> Result<(), A
     append_end(text, count)
 }
 
-/// Theorem: later records do not change the text of a response that is still to be written. The
+/// Theorem: later records do not change the text that a streamed response still has to send. The
 /// exception is a record that voids (withdraws) an entry which the meter had when the response
 /// began.
 pub fn text_stays()
@@ -311,7 +312,9 @@ pub fn text_stays()
     shares_add_up();
 }
 
-/// Theorem: the chunks of a response together are the response as of the time at which it began.
+/// Theorem: if no record added between chunks voids (withdraws) an entry that the meter had at the
+/// beginning, the chunks form one response. This response shows the rows as of the time at which
+/// the response began.
 pub fn chunks_form_response()
     ensures { PiecesAreWhole }
 {

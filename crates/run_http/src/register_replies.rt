@@ -52,8 +52,8 @@ fn write_energy<B: Books, W: Write>(
 }
 
 /// Appends the response to a query for the energy of an accounting register: the report, or an
-/// error response if the program refused the query. If memory runs out, a part of the response
-/// remains.
+/// error response if the program refused the query. If memory runs out, only a part of the response
+/// was appended.
 pub fn write_energy_reply(
     text: &mut Vec<u8>,
     answer: &Result<(), Refusal>,
@@ -70,8 +70,8 @@ pub fn write_energy_reply(
 
 /// Queries the daily energy of an accounting register, and appends the response with the report.
 ///
-/// If the report's range has both ends, the store reads only the quarter hours of the range and of
-/// two days on each side. If memory runs out, a part of the response remains.
+/// If the range has a first and a last day, the store reads only quarter hours of the range and two
+/// days on each side. If memory runs out, only a part of the response was appended.
 pub fn reply_energy<B: Books>(
     alloc: Global,
     text: &mut Vec<u8>,

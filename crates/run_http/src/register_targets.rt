@@ -99,7 +99,8 @@ fn days_in(name: &[u8], text: &[u8]) -> Option<RunRoute>
     }
 }
 
-// Parses the part of a target after `/registers/NAME/` as a query for energy.
+// Parses the part of a target after `/registers/NAME/` if it requests energy. Returns `None` for
+// any other target.
 fn energy_in(name: &[u8], text: &[u8]) -> Option<RunRoute>
     ensures { targets.IsEnergyIn name.now text.now result }
 {

@@ -1,5 +1,5 @@
 //! The routes of `sunreg run`: the status, metrics, the site, rows of a meter, the energy and
-//! meters of a register, and the web page.
+//! meters of an accounting register, and the web page.
 ghost use Rattle.std.specs.Prelude.{◌≡◌, IfOk, OnOk};
 ghost use Rattle.office_http.specs.Messages.Head.Heads.{Looks};
 ghost use Rattle.office_http.specs.Messages.Sending.Bodies.{fault_text};
@@ -21,7 +21,8 @@ use web_page::{PagePart, part_of};
 /// A route whose response needs no query of the store.
 #[derive(Clone, Copy)]
 pub enum StatusRoute {
-    /// The counts, the device states, and what the devices lack, as JSON (`/status`).
+    /// The counts, the device states, and what is missing in the store for the devices, as JSON
+    /// (`/status`).
     Status,
     /// A part of the web page, such as its script.
     Page(PagePart),
@@ -60,7 +61,7 @@ pub enum RunRoute {
         register: Option<Name>,
         form: ReportForm,
     },
-    /// The meters at an accounting register, open and closed, as plain text.
+    /// The present and earlier meters of an accounting register, as plain text.
     Meters {
         register: Option<Name>,
     },
@@ -178,8 +179,8 @@ fn permitted_route(request: &[u8], head_state: &HeadState) -> Option<RunRoute>
 /// Finds the route of a request among the routes of `sunreg run`, if the head is complete and
 /// within its limits.
 ///
-/// The route is 421 for a host that is neither in `names` nor a name of this machine. It is 403 for
-/// a request from a page of another site. `None` means that `run_http` has no route, and the crate
+/// A request whose host is not in `names` and is no name of this machine gets 421. A request from a
+/// page of another site gets 403. `None` means that `run_http` has no route, and the crate
 /// `office_http` handles the request.
 pub fn run_route(names: &[&str], request: &[u8]) -> Option<RunRoute>
     ensures { texts.IsFor (hosts.texts names.now) request.now result }

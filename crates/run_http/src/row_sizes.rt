@@ -11,7 +11,8 @@ pub struct Sizes {
     pub count: usize,
 }
 
-/// The sizes of the interval rows received so far. `is_whole` is false after memory ran out.
+/// The number of the interval rows received so far, and the size of their lines. `is_whole` is
+/// false if memory ran out for a row.
 #[derive(Drop)]
 pub struct RowSizes {
     line: Vec<u8>,
@@ -23,7 +24,7 @@ impl RowSizes {
     ghost use Rattle.std.specs.Prelude.{◌≡◌, ◌+◌, length, true, IfOk, IfSome, OnOk};
     ghost use Rattle.interval_core.specs.Lines.{share_line};
 
-    /// Makes a row visitor that has measured no interval rows.
+    /// Makes the sizes of no interval rows: 0 bytes and 0 rows.
     pub fn new(alloc: Global) -> RowSizes
         ensures sizes { result.sizes ≡ record { bytes = 0; count = 0 } }
         ensures whole { result.is_whole ≡ true }
@@ -35,8 +36,8 @@ impl RowSizes {
         }
     }
 
-    // Returns the sizes after another row, whose line has `bytes` bytes. Returns `None` if a size
-    // overflows.
+    // Returns the number of rows and the size of their lines after another row, whose line has
+    // `bytes` bytes. Returns `None` if a size overflows.
     fn with_line(&self, bytes: usize) -> Option<Sizes>
         ensures bytes { IfSome result (λ sizes. sizes.bytes ≡ self.now.sizes.bytes + bytes) }
         ensures count { IfSome result (λ sizes. sizes.count ≡ self.now.sizes.count + 1) }

@@ -14,7 +14,7 @@ use office_events::{Name, Refusal};
 use office_http::messages::Status;
 use std::alloc::{AllocError, Global};
 
-// The maximum number of entries that one query returns, and of queries for one response: nearly
+// One query returns at most 65,536 entries, and one response uses at most 2^48 - 1 queries: nearly
 // 2^64 entries in all.
 const PIECE: u32 = 65536;
 
@@ -49,7 +49,7 @@ fn keep_voided(kept: &mut Vec<MeterEntry>, piece: &[MeterEntry]) -> Result<(), A
     Ok(())
 }
 
-// Queries all entries of a meter in chunks, and collects the voided (withdrawn) entries.
+// Queries all entries of a meter in chunks of 65,536, and collects the voided (withdrawn) entries.
 fn ask_voids<B: Books>(
     alloc: Global,
     office: &mut Office<B>,
@@ -92,8 +92,9 @@ fn write_reported_voids(
     }
 }
 
-/// Queries the voided (withdrawn) entries of a meter, and appends the response. Each query returns
-/// up to 65,536 entries. If memory runs out, a part of the response remains.
+/// Collects the voided (withdrawn) entries of a meter, and appends the response. Each query of the
+/// store returns up to 65,536 entries. If memory runs out, only a part of the response was
+/// appended.
 pub fn reply_voids<B: Books>(
     alloc: Global,
     text: &mut Vec<u8>,

@@ -22,8 +22,8 @@ or_left : (a b : Bool) → a ≡ true → (a || b) ≡ true
 or_left true b is = refl
 or_left false b is = absurd (cc)
 
--- If a file name contains no period (such as `2026-11`) of the configured length, then any period
--- in the name has the alternative length.
+-- Suppose that a file name contains no period (such as `2026-11`) of the configured length. Then a
+-- search for a period of either length has the result of the search for the alternative length.
 pub reported_by_other : (file : List ℕ) (length : Period) (name : List ℕ) (r : Option (Bor (List ℕ))) → IsPeriodIn file length name None
     → IsPeriodIn file (other_length length) name r → IsReportedBy file length name r
 reported_by_other file length name (Some text) own is = record {
@@ -36,7 +36,7 @@ reported_by_other file length name None own other = λ text is.
       | inr spelled ↦ other text (record { spelled = spelled; named = is.named })
     ]
 
--- Equal file names contain equal periods, such as the month `2026-11`.
+-- If the file names of two periods (such as `2026-11`) are equal, then the two periods are equal.
 same_text : (file text other : List ℕ) → file_of file text ≡ file_of file other → text ≡ other
 same_text file text other both =
     let fronts : stem_of file ++ codes "-" ++ text ≡ stem_of file ++ codes "-" ++ other = append_cancel_right _ _ (suffix_of file) both in

@@ -42,8 +42,8 @@ natural : (z : ℤ) → FitsUnsignedBits 64 z → z ≡ pos (unsigned_abs z)
 natural (pos n) fits = refl
 natural (negsuc n) fits = absurd fits
 
--- If an integer is within 10^12 of zero and fits 64 unsigned bits, then the integer equals its
--- unsigned 64-bit value.
+-- If an integer is within 10^12 of zero and fits in an unsigned 64-bit integer, then the integer
+-- equals its unsigned 64-bit value.
 pub as_natural : (z : ℤ) (n : ℕ) → IsBetween (neg_ℤ (pos 1_000_000_000_000)) (pos 1_000_000_000_000) z
     → FitsUnsignedBits 64 (to_z w64 (of_z w64 z)) → n ≡ unsigned_abs (to_z w64 (of_z w64 z)) → z ≡ pos n
 as_natural z n bound fits is =

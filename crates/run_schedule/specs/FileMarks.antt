@@ -14,14 +14,14 @@ is_same_file known found = (known.device == found.device) && (known.inode == fou
 abbrev pub loss_of_size : (known found : FileMark) → Option FileLoss
 loss_of_size known found = if nat_lt found.size known.size then Some Shortened else None
 
--- The difference between the open file and the file at its path. None if the path leads to the open
--- file, and the file is no shorter than before.
+-- How the file at a path differs from the open file: missing, replaced or shortened. None if the
+-- path leads to the open file, and the file is no shorter than before.
 abbrev pub file_loss : (known : FileMark) → (found : Option FileMark) → Option FileLoss
 file_loss known None = Some Missing
 file_loss known (Some found) =
     if is_same_file known found then loss_of_size known found else Some Replaced
 
--- True if the path leads to the open file, and the file is no shorter than before.
+-- States that the path leads to the open file, and that the file is no shorter than before.
 abbrev pub IsStill : (known : FileMark) → (found : Option FileMark) → Type 0
 IsStill known None = ⊥
 IsStill known (Some found) =

@@ -13,7 +13,7 @@ pub struct FileMark {
     pub size: u64,
 }
 
-/// The difference between the open file and the file that its path leads to now.
+/// How the file that a path leads to now differs from the open file.
 #[derive(Clone, Copy)]
 pub enum FileLoss {
     /// The path leads to no file.

@@ -122,8 +122,7 @@ fn play_text<B: Books, W: Write>(
     output: &mut W,
 ) -> Result<ExitStatus, io::Error> {
     let mut lines = InputLines::new(text);
-    // A script has fewer than 2^64 - 1 lines, so the loop over its lines always ends before its
-    // bound.
+    // A script has fewer than 2^64 - 1 lines, so the loop always ends at the last line.
     for _ in 0..u64::MAX {
         let Some(line) = lines.next_line() else {
             break;

@@ -1,5 +1,5 @@
 //! Runs scripts (texts of commands, events and queries) over a store in memory, over any other
-//! store, and over simulated devices.
+//! store, and with simulated devices.
 #![tactic(auto)]
 
 mod any_books;

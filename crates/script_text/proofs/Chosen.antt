@@ -1,5 +1,5 @@
--- Lemmas on a choice by a condition, and on the search for a word in a table of words and their
--- meanings.
+-- Lemmas on `if` expressions that return an optional value, and on the search for a word in a table
+-- of words and their meanings.
 use Rattle.std.proofs.Common.{◌≡◌, ◌⊎◌, inl, inr, ℕ, Bool, true, false, List, [], ◌∷◌, Some, Option, refl, subst}
 use Rattle.std.specs.Prelude.{if◌then◌else◌, map, option_map}
 use Rattle.std.specs.Borrow.{Bor}
@@ -17,8 +17,8 @@ chosen false x y z h = inr h
 pub is_text : (word text : List ℕ) → bytes_eq word text ≡ true → word ≡ text
 is_text word text h = (bytes_eq-Decides word text).0 h
 
--- Searching a table of words, whose first entry is `entry`, finds the meaning in `entry` if `b` is
--- true. Otherwise it finds what a search of the later entries finds.
+-- If the first entry of a table has the searched word (`b`), the search returns the meaning in this
+-- entry. Otherwise the search returns the meaning in the later entries.
 first_meaning : {T : Type 0} (b : Bool) (entry : Bor (List ℕ) × T) (later : Option (Bor (List ℕ) × T)) (meaning : Option T)
     → option_map (λ (e : Bor (List ℕ) × T). e.1) later ≡ meaning
     → option_map (λ (e : Bor (List ℕ) × T). e.1) (if b then Some entry else later) ≡ (if b then Some entry.1 else meaning)
@@ -30,13 +30,14 @@ pub found_meaning : {T : Type 0} (table : List (Bor (List ℕ) × T)) (word : Li
 found_meaning [] word = refl
 found_meaning (entry ∷ table) word = first_meaning (bytes_eq entry.0.now word) entry _ (meaning_in (map entry_of table) word) (found_meaning table word)
 
--- States that `P` is true for the meaning and the word of every entry in a table of words.
+-- States that `P` is true for every entry of a table of words: for the entry's meaning and its
+-- word.
 abbrev pub Each : {T : Type 0} → (T → List ℕ → Type 0) → List (List ℕ × T) → Type 0
 Each P [] = Unit {0}
 Each P (entry ∷ table) = P entry.1 entry.0 × Each P table
 
--- If `P` is true for each entry of a table of words, then `P` is true for every word in the table
--- and for the word's meaning.
+-- If `P` is true for each entry of a table of words, then `P` is true for every word that a search
+-- finds.
 pub meant : {T : Type 0} (P : T → List ℕ → Type 0) (table : List (List ℕ × T)) (word : List ℕ) (v : T) → Each P table → meaning_in table word ≡ Some v → P v word
 meant P [] word v each h = cc h
 meant P (entry ∷ table) word v each h =

@@ -83,8 +83,8 @@ not_number question.Poll = refl
 question_word : (word : List ℕ) (q : Question) → question_of word ≡ Some q → word ≡ question_text q
 question_word word q h = meant (λ q w. w ≡ question_text q) questions word q (refl, (refl, (refl, (refl, tt)))) h
 
--- The script line of an event or a command has the timestamp, the verb and the fields of the
--- values, in this order.
+-- Lemmas: the line of an event or a command consists of the timestamp, the verb and the fields of
+-- the values, in this order.
 
 verb_form : (v : Verb) (at : ℕ) (values : Values (kinds_of v)) → form_of (line_of v at values) ≡ Some (Of Number at ∷ Word (verb_text v) ∷ fields (kinds_of v) values)
 verb_form verb.Device at values = refl

@@ -1,4 +1,5 @@
--- Lemmas on texts that a writer receives one after another, where the last write may fail.
+-- Lemmas on several texts that are written one after another to a writer, where the last write may
+-- fail.
 use Rattle.std.proofs.Common.{◌≡◌, ◌<◌, ℕ, zero, suc, Option, Some, None, List, [], ◌∷◌, ◌++◌, length, take, drop, get_or, refl, sym, ◌∙◌, ap, append_assoc, arith}
 use Rattle.std.specs.List.{flat_map}
 use Rattle.std.specs.Prelude.{Ok, Err, IsErr, OnOk}
@@ -21,14 +22,15 @@ part_after a b c x y z first second joined = (
   appends_both a b c x second.0 (x ++ second.0) first second.3 refl,
 )
 
--- If a writer received a text and then all or a part of a second text, the writer received both
--- texts or a part of both.
+-- If a writer received a first text completely and then a second text completely or in part, it
+-- received their concatenation completely or in part.
 pub got_both : {X E : Type 0} (result : Result X E) (a b c : Option (List ℕ)) (x y z : List ℕ) → Appends a b x → GotText result y b c → x ++ y ≡ z
     → GotText result z a c
 got_both (Ok done) a b c x y z first second joined = appends_both a b c x y z first second joined
 got_both (Err error) a b c x y z first second joined = part_after a b c x y z first second joined
 
--- If the first of two writes failed, the writer received a part of the two texts together.
+-- If the write of the first of two texts failed, the writer received a beginning of the two texts'
+-- concatenation.
 pub got_first : {X E : Type 0} (result : Result X E) (a b : Option (List ℕ)) (x y z : List ℕ) → IsErr result → GotPart x a b → x ++ y ≡ z → GotText result z a b
 got_first (Ok done) a b x y z failed first joined = cc failed
 got_first (Err error) a b x y z failed first joined =
@@ -42,8 +44,8 @@ all_of f (x ∷ xs) (suc i) d inside =
     append_assoc (f x) (flat_map f (take i xs)) (f (get_or xs i d) ++ flat_map f (drop (suc i) xs))
     ∙ ap (λ (more : List ℕ). f x ++ more) (all_of f xs i d (omega arith))
 
--- If the write of item `i` failed, the writer received the texts of the items before `i` and a part
--- of the text of item `i`.
+-- If items are written in order and the write of item `i` failed, the writer received a beginning
+-- of the text of all items.
 pub got_some : {X Y E : Type 0} (f : X → List ℕ) (xs : List X) (i : ℕ) (x : X) (result : Result Y E) (a b c : Option (List ℕ)) → i < length xs
     → x ≡ get_or xs i x → IsErr result → Appends a b (flat_map f (take i xs)) → GotPart (f x) b c → GotText result (flat_map f xs) a c
 got_some f xs i x result a b c inside is failed first second =
@@ -62,7 +64,8 @@ pub got_at : {X Y E : Type 0} (f : X → List ℕ) (xs : List X) (i : ℕ) (d : 
 got_at f xs i d result a b c inside failed first second =
     got_some f xs i (get_or xs i d) result a b c inside (same_inside xs i d (get_or xs i d) inside) failed first second
 
--- A fact about a received text also applies to every equal text.
+-- If a writer received the text `x`, completely or in part, and `y` equals `x`, then the same is
+-- true for `y`.
 pub got_this : {X E : Type 0} (result : Result X E) (a b : Option (List ℕ)) (x y : List ℕ) → x ≡ y → GotText result x a b → GotText result y a b
 got_this result a b x y same got = rw same at got
 

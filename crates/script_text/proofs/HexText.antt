@@ -20,8 +20,8 @@ pub none_got : (a : Option (List ℕ)) → Appends a a (encode_lower [])
 unfolding encode_with
 none_got a = Appends-nil a
 
--- If the first `n` unwritten bytes are appended to the bytes written before, the written and the
--- unwritten bytes together are still all bytes in order.
+-- Moving the first `n` unwritten bytes to the end of the written bytes does not change the
+-- concatenation of the written and the unwritten bytes.
 pub cut_off : (bytes done rest piece after : List ℕ) (n : ℕ) → bytes ≡ done ++ rest → piece ≡ take n rest → after ≡ drop n rest → bytes ≡ (done ++ piece) ++ after
 cut_off bytes done rest piece after n split front back =
     split ∙ ap (λ (l : List ℕ). done ++ l) (sym (take-append-drop n rest)) ∙ ap (λ (l : List ℕ). done ++ (l ++ drop n rest)) (sym front)
@@ -34,8 +34,8 @@ pub piece_got : (a b c : Option (List ℕ)) (done piece : List ℕ) → Appends 
 piece_got a b c done piece first second =
     appends_both a b c (encode_lower done) (encode_lower piece) (encode_lower (done ++ piece)) first second (sym (encode_lower-append done piece))
 
--- If one write of a part of the hex text failed, the writer received a part of the complete hex
--- text.
+-- If a hex text is written in pieces and the write of one piece failed, the writer received a
+-- beginning of the complete hex text.
 pub piece_failed : {X E : Type 0} (result : Result X E) (a b c : Option (List ℕ)) (bytes done piece after : List ℕ) → IsErr result → bytes ≡ (done ++ piece) ++ after
     → Appends a b (encode_lower done) → GotPart (encode_lower piece) b c → GotText result (encode_lower bytes) a c
 piece_failed result a b c bytes done piece after failed is first second =
@@ -44,13 +44,15 @@ piece_failed result a b c bytes done piece after failed is first second =
     (ap (λ (front : List ℕ). front ++ encode_lower after) (sym (encode_lower-append done piece)) ∙ sym (encode_lower-append (done ++ piece) after)
     ∙ ap encode_lower (sym is))
 
--- If no bytes are left to write, the writer received the hex text of all bytes.
+-- If a writer received the hex text of the bytes written so far, and no bytes are left, it received
+-- the complete hex text.
 pub all_got : (a b : Option (List ℕ)) (bytes done rest : List ℕ) → bytes ≡ done ++ rest → rest ≡ [] → Appends a b (encode_lower done) → Appends a b (encode_lower bytes)
 all_got a b bytes done rest split none got =
     appends_this a b (encode_lower done) (encode_lower bytes)
     (ap encode_lower (sym (append-nil done)) ∙ ap (λ (l : List ℕ). encode_lower (done ++ l)) (sym none) ∙ ap encode_lower (sym split)) got
 
--- After a successful call, the condition that its contract states for success is true.
+-- If the result of a function is `Ok`, then the condition that the function's contract states for
+-- `Ok` is true.
 pub filled : {X E : Type 0} (result : Result X E) (P : Type 0) → IsOk result → OnOk result P → P
 filled (Ok done) P ok so = so
 filled (Err error) P ok so = cc ok

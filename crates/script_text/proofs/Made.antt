@@ -11,7 +11,8 @@ abbrev pub fields : (kinds : List Kind) → Values kinds → List Field
 fields [] values = []
 fields (kind ∷ kinds) values = Of kind values.0 ∷ fields kinds values.1
 
--- If two parsing steps in a row return a result, then the first step alone also returned a result.
+-- If two parsing steps in sequence return a result, then the first step returned a value, and the
+-- second step returned the result for it.
 pub bound : {X Y : Type 0} (o : Option X) (f : X → Option Y) (y : Y) → (o >>= f) ≡ Some y → (x : X) × (o ≡ Some x) × (f x ≡ Some y)
 bound None f y h = cc h
 bound (Some x) f y h = (x, refl, h)
@@ -23,8 +24,8 @@ paired (Some x) words v h =
     let p = same (x, words) v h in
     (ap (λ (q : _ × List (List ℕ)). Some q.0) p, ap (λ (q : _ × List (List ℕ)). q.1) p)
 
--- If the parser of a script line returned a value, then the first word spells this value, or the
--- word is optional and missing.
+-- If the parser returned a value for the first word of a script line, the word spells this value,
+-- or is missing and optional.
 pub first_spelled : (kind : Kind) (words : List (List ℕ)) (first : Value kind × List (List ℕ)) (more : List Field)
     → first_value kind words ≡ Some first → Spell first.1 more → Spell words (Of kind first.0 ∷ more)
 first_spelled kind [] first more h rest =

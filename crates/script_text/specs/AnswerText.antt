@@ -1,5 +1,5 @@
--- The lines that a script (a text of commands, events and queries) prints for answers,
--- notifications, refusals, meters, polls and faults.
+-- The lines that a run of a script prints for answers, notifications, refusals, meters, polls and
+-- faults. A script is a text of commands, events and queries.
 use Rattle.std.specs.Prelude.{ℕ, Bool, true, false, List, ◌++◌, flat_map, Some, None, codes}
 use Rattle.std.specs.declared.option.Option.{Option}
 use Rattle.std.specs.Fmt.{decimal, signed_decimal}
@@ -40,7 +40,7 @@ outcome_line poll outcome =
     codes "poll " ++ decimal poll ++ codes " " ++ outcome_text outcome ++ codes "\n"
 
 -- The part of the output line of an accepted meter reading after the meter's name: the meter's
--- count, its number of rollovers, and the energy since the previous entry, in mWh.
+-- count, and the counter's rollovers and the energy in mWh since the previous entry.
 abbrev pub reading_text : ℕ → ℕ → ℕ → List ℕ
 reading_text raw rolls step =
     codes " " ++ decimal raw ++ codes " rolls " ++ decimal rolls ++ codes " step " ++ decimal step
@@ -66,8 +66,8 @@ counts_text first count of =
     codes "started " ++ decimal first ++ codes " " ++ decimal count ++ codes " " ++ decimal of
     ++ codes " "
 
--- The output line for the answer to an event: `ok`, or the numbers of the started polls and the
--- Modbus frames to send, in hex.
+-- The output line for the answer to an event: `started FIRST COUNT OF HEX` if polls were started,
+-- otherwise `ok`. HEX are the Modbus frames to send.
 abbrev pub answer_line : Answer → List ℕ → List ℕ
 answer_line Noted frames = codes "ok\n"
 answer_line (Done kind) frames = codes "ok\n"
@@ -84,13 +84,13 @@ accepted_text answer notes frames = flat_map note_line notes ++ answer_line answ
 abbrev pub refused_line : Refusal → List ℕ
 refused_line refusal = codes "refused " ++ decimal (refusal_number refusal) ++ codes "\n"
 
--- The last word of a meter's output line: `open`, or `ended` for a meter that was closed.
+-- The last word of a meter's output line: `ended` if the meter was closed, otherwise `open`.
 abbrev pub end_word : Bool → List ℕ
 end_word true = codes " ended\n"
 end_word false = codes " open\n"
 
--- The part of a meter's output line after the meter's name: the last count and its scale factor,
--- the total energy in mWh, and `open` or `ended`.
+-- The part of a meter's output line after the meter's name: the last count, its scale factor and
+-- timestamp, the total energy in mWh, and `open` or `ended`.
 abbrev pub standing_text : Last → ℕ → Bool → List ℕ
 standing_text last total ended =
     codes " last " ++ decimal last.raw ++ codes " sf " ++ signed_decimal last.sf ++ codes " at "
@@ -107,7 +107,8 @@ abbrev pub poll_line : PollRow → List ℕ
 poll_line row =
     codes "poll " ++ decimal row.poll.number ++ codes " " ++ ending_text row.ended ++ codes "\n"
 
--- The line `row R fault N` for an invalid row of a point list. The header is row 1.
+-- The line `row R fault N` for row R of a point list, where N is the numeric code of the row's
+-- fault. The header is row 1.
 abbrev pub fault_line : FaultyRow → List ℕ
 fault_line faulty =
     codes "row " ++ decimal faulty.row ++ codes " fault " ++ decimal (fault_number faulty.fault)

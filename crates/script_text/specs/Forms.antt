@@ -52,7 +52,7 @@ command_form (command.PutList c) = None
 command_form (command.StartPoll c) = None
 
 -- The fields of an event's script line after the timestamp. `None` for an event with an idempotency
--- key, which no script line can express.
+-- key, because no script line can express such an event.
 abbrev pub event_form : Event → Option (List Field)
 event_form (event.Connected device) = Some (Word (codes "connect") ∷ Of AnyName device ∷ [])
 event_form (event.Bytes device piece) =
@@ -62,8 +62,8 @@ event_form (event.Gone device closing) = Some (Word (closing_word closing) ∷ O
 event_form (event.Command c) = command_form c
 event_form (event.Asked asked) = None
 
--- The fields of a script line (a command, an event or a query), or `None` for an event or command
--- that no script line can express.
+-- The fields of a script line (a command, an event or a query). `None` for an event or command that
+-- no script line can express.
 abbrev pub form_of : ScriptLine → Option (List Field)
 form_of (line.Event at event) = option_map (λ form. Of Number at ∷ form) (event_form event)
 form_of (line.List at list) =

@@ -20,7 +20,8 @@ abbrev pub Values : List Kind → Type 0
 Values [] = Unit {0}
 Values (kind ∷ kinds) = Value kind × Values kinds
 
--- The given script line, if no word of its text is left to parse. `None` if words are left.
+-- The given script line `line` if `words` is empty, because the parser has used all words. `None`
+-- if words are left.
 abbrev pub said_last : ScriptLine → List (List ℕ) → Option ScriptLine
 said_last line words = end_of_words words >>= λ none. Some line
 
@@ -51,7 +52,7 @@ kinds_of verb.Tick = []
 kinds_of verb.Gone = AnyName ∷ []
 kinds_of verb.Failed = AnyName ∷ []
 
--- The script line with the given verb, timestamp and values.
+-- The script line of an event or a command with the given verb, timestamp and values.
 abbrev pub line_of : (verb : Verb) → (at : ℕ) → Values (kinds_of verb) → ScriptLine
 line_of verb.Device at v =
     line.Event at
@@ -118,8 +119,8 @@ line_of verb.Tick at v = line.Event at event.Tick
 line_of verb.Gone at v = line.Event at (event.Gone v.0 closing.Gone)
 line_of verb.Failed at v = line.Event at (event.Gone v.0 closing.Failed)
 
--- The script line with the given verb and timestamp. `None` unless the words after the verb have
--- the kinds that the verb requires.
+-- The script line of an event or a command with the given verb and timestamp. `None` unless the
+-- words after the verb have the kinds that the verb requires.
 abbrev pub said_by : Verb → (at : ℕ) → List (List ℕ) → Option ScriptLine
 said_by verb.Device at words = made (kinds_of verb.Device) (line_of verb.Device at) words
 said_by verb.List at words = made (kinds_of verb.List) (line_of verb.List at) words

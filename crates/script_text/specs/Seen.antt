@@ -29,7 +29,7 @@ pub record BringBytes (words : List (List ℕ)) : Type 0 where
   pub some : 0 < length (bytes_in line)
 
 -- States that parsing returns the only script line that the words spell, or `Bad` if the words
--- spell no script line. `Memory` is possible only for a line that carries bytes.
+-- spell no script line. `Memory` (out of memory) is possible only for a line that carries bytes.
 abbrev pub Reads : List (List ℕ) → Result ScriptLine LineFault → Type 0
 Reads words (Ok line) = IsOnly words line
 Reads words (Err Bad) = (line : ScriptLine) → IsLine words line → ⊥

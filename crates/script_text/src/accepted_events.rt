@@ -36,8 +36,8 @@ pub fn write_notes<W: Write>(notes: &[Note], output: &mut W) -> io::Result<()>
     Ok(())
 }
 
-/// Writes the line `ok`, or for started polls the line `started FIRST COUNT OF HEX`. HEX are the
-/// Modbus frames to send.
+/// Writes the line `started FIRST COUNT OF HEX` if the event started polls, otherwise the line
+/// `ok`. HEX are the Modbus frames to send.
 pub fn write_answer<W: Write>(answer: &Answer, frames: &[u8], output: &mut W) -> io::Result<()>
     ensures { GotText result (text.answer_line answer.now frames.now)
         (W.contents output.old) (W.contents output.new) }

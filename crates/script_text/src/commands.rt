@@ -152,7 +152,7 @@ pub(crate) fn void_entry(at: u64, words: &mut Words<'_>) -> Option<ScriptLine>
 }
 
 // Parses `DEVICE FROM`, the words after `round` in a script line. The command starts a round of
-// polls, one for each Modbus read that the device needs.
+// polls: one poll for each Modbus read of the device's plan, from index FROM on.
 pub(crate) fn round(at: u64, words: &mut Words<'_>) -> Option<ScriptLine>
     ensures { result ≡ said_by verb.Round at words.old }
 {

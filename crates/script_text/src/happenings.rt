@@ -33,8 +33,8 @@ pub(crate) fn start(at: u64, words: &mut Words<'_>) -> Option<ScriptLine>
     Some(ScriptLine::Start { at, start })
 }
 
-// Parses `DEVICE`, the word after `connect` in a script line. The line reports that the device was
-// connected.
+// Parses `DEVICE`, the word after `connect` in a script line. The line reports that the connection
+// to the device was established.
 pub(crate) fn connect(at: u64, words: &mut Words<'_>) -> Option<ScriptLine>
     ensures { result ≡ said_by verb.Connect at words.old }
 {

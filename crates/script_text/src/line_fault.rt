@@ -9,7 +9,7 @@ use std::fmt::{Display, Formatter};
 /// The reason why a script line was not parsed or executed.
 #[derive(Clone, Copy, Debug)]
 pub enum LineFault {
-    /// The line is malformed: it is no command, event or query.
+    /// The line is malformed: the line is no command, event or query.
     Bad,
     Memory,
 }

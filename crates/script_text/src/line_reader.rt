@@ -18,8 +18,8 @@ use std::alloc::{AllocError, Global};
 impl ScriptLine {
     ghost use Rattle.script_text.specs.Seen.{Reads};
 
-    /// Parses a line of a script. Parsing can fail with `Memory` only if the line contains bytes in
-    /// hexadecimal.
+    /// Parses a line of a script. Parsing can fail with `Memory` (out of memory) only if the line
+    /// contains bytes in hexadecimal.
     pub fn read(alloc: Global, line: &[u8]) -> Result<ScriptLine, LineFault>
         ensures { Reads (words_of line.now) result }
     {

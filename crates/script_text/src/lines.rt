@@ -94,7 +94,8 @@ fn push_ending(line: &mut Line, ended: &Option<EndedPoll>)
     }
 }
 
-/// Writes the line `row R fault N` for each faulty row of a point list. The header is row 1.
+/// Writes the line `row R fault N` for each faulty row of a point list, where N is the numeric code
+/// of the fault. The header is row 1.
 pub fn write_faults<W: Write>(faults: &[FaultyRow], output: &mut W) -> io::Result<()>
     ensures { GotText result (flat_map text.fault_line faults.now)
         (W.contents output.old) (W.contents output.new) }

@@ -12,7 +12,8 @@ const PIECE: usize = 32;
 /// The maximum number of hex digits in one write.
 const DIGITS: usize = 2 * PIECE;
 
-/// Writes the complete text, or fails after a beginning of the text.
+/// Writes the complete text. If the write fails, the writer has received only a beginning of the
+/// text.
 pub(crate) fn write_text<W: Write>(text: &[u8], output: &mut W) -> io::Result<()>
     ensures { GotText result text.now (W.contents output.old) (W.contents output.new) }
 {
@@ -27,7 +28,7 @@ fn write_both<W: Write>(first: &[u8], second: &[u8], output: &mut W) -> io::Resu
     write_text(second, output)
 }
 
-/// Writes a keyword, a name and the rest of a line, in this order.
+/// Writes a keyword, a name and the rest of a line to the writer, in this order.
 pub(crate) fn write_named<W: Write>(
     word: &[u8],
     name: &[u8],

@@ -4,8 +4,8 @@ ghost use Rattle.std.specs.Prelude.{◌≡◌, ◌↔◌, IfSome, IsSome};
 use mb_wire::ReadSpan;
 use office_events::{Event, Name, Piece};
 
-/// The script line that starts a Modbus read. The numbers of the read are those in the line, and
-/// may be out of range.
+/// The script line that starts a Modbus read. The fields are the numbers as written in the line,
+/// which may be outside the ranges that Modbus allows.
 #[derive(Clone, Copy)]
 pub struct GivenStart {
     /// The name of the device, or `None` if the word is not a valid name.

@@ -69,8 +69,8 @@ module _ (p : Row → Bool) (f : Row → Row) (keeps : (r : Row) → rowid r ≡
   pub changed_apart : (rows : List Row) → AreApart rows → AreApart (map (changed p f) rows)
   changed_apart rows apart = record { keyed = keyed_still rows apart.keyed; distinct = subst (IsDistinct same_id) (sym (same_all rows apart.keyed)) apart.distinct }
 
--- If a rowid differs from the rowids of all rows, it differs from the rowids of any part of the
--- rows.
+-- If a rowid differs from the rowids of all rows, it differs from the rowids of the rows that pass
+-- a test.
 kept_apart : (p : Row → Bool) (x : ℤ) (rows : List Row) → AllByRecursion (λ y. same_id x y ≡ false) (map id_of rows) → AllByRecursion (λ y. same_id x y ≡ false) (map id_of (filter p rows))
 kept_apart p x [] all = tt
 kept_apart p x (r ∷ rows) all = elim (cases_Bool (p r)) [

@@ -31,7 +31,8 @@ after_second content = with_rows 20 [] content
 abbrev after_first : Content → Content
 after_first content = with_rows 18 [] (after_second content)
 
--- Lemmas on upgrading files of version 2: the tables except `meta` and `voids` keep their rows.
+-- Lemmas on upgrading files of version 2: all tables keep their rows, except `meta` and the new
+-- table `voids`.
 
 second_same : (content : Content) (t : ℕ) → HasTree (first_tables 12).tables t → after_second content t ≡ content t
 second_same content t there = with_others 20 [] content t (λ is. has_not (first_tables 12).tables 20 refl (subst (HasTree (first_tables 12).tables) is there))
@@ -69,8 +70,8 @@ brought_second a b c x r one two =
       last.2,
     ))
 
--- Lemmas on upgrading files of version 1: the tables except `meta` and the new tables keep their
--- rows.
+-- Lemmas on upgrading files of version 1: all tables keep their rows, except `meta` and the tables
+-- that the upgrade creates.
 
 first_same : (content : Content) (t : ℕ) → HasTree (first_tables 11).tables t → after_first content t ≡ content t
 first_same content t there =
@@ -128,8 +129,8 @@ brought_first {E} {D} {F} shown a b c d x r one two three =
 -- open to the file.
 
 module _ (layout : Layout) (zone : List ℕ) (content : Content) where
-  -- If a query runs before a file is opened, both together satisfy the contract of opening the
-  -- file.
+  -- If a query runs before a file is opened, the query and the opening together satisfy the
+  -- contract of opening the file.
   pub after_question : {X E : Type 0} (a b c : State) (r : Result X E) → IsUnchanged a b → Survives a b (λ _. ⊥) → OpensFile layout zone content b c r → OpensFile layout zone content a c r
   after_question a b c (Ok x) same crash it = record { ok = it.ok; err = tt; survives = survives_then a b c (λ _. ⊥) _ _ (λ _ db none. absurd none) (λ _ db is. is) crash it.survives }
   after_question a b c (Err e) same crash it = record {
@@ -138,13 +139,14 @@ module _ (layout : Layout) (zone : List ℕ) (content : Content) where
     survives = survives_then a b c (λ _. ⊥) _ _ (λ _ db none. absurd none) (λ _ db is. is) crash it.survives;
   }
 
-  -- If a call commits nothing, and a later call opens the file, both together satisfy the contract
-  -- of opening the file.
+  -- If a call commits nothing, and a later call opens the file, the two calls together satisfy the
+  -- contract of opening the file.
   pub after_kept : {X E : Type 0} (a b c : State) (r : Result X E) → KeepsCommit a b → Survives a b (λ _. ⊥) → OpensFile layout zone content b c r → OpensFile layout zone content a c r
   after_kept a b c (Ok x) kept crash it = record { ok = it.ok; err = tt; survives = survives_then a b c (λ _. ⊥) _ _ (λ _ db none. absurd none) (λ _ db is. is) crash it.survives }
   after_kept a b c (Err e) kept crash it = record { ok = tt; err = kept_then a b c kept it.err; survives = survives_then a b c (λ _. ⊥) _ _ (λ _ db none. absurd none) (λ _ db is. is) crash it.survives }
 
-  -- If opening a file fails before any call, the file and the connection are unchanged.
+  -- If opening a file fails before the first call to the database, the file and the connection are
+  -- unchanged.
   pub untouched : {X E : Type 0} (a : State) (e : E) → OpensFile {X = X} layout zone content a a (Err e)
   untouched a e = record {
     ok = tt;
@@ -165,8 +167,8 @@ module _ (layout : Layout) (zone : List ℕ) (content : Content) where
   passed_on a b e (Ok y) Q fails it = absurd fails
   passed_on a b e (Err d) Q fails it = record { ok = tt; err = it.err; survives = it.survives }
 
-  -- If opening a file satisfies the contract `OpensFile`, it also satisfies the contract with any
-  -- other value in Ok.
+  -- Whether a successful opening of a file satisfies the contract `OpensFile` does not depend on
+  -- the value in Ok.
   pub reported_as : {X Y E D : Type 0} (a b : State) (x : X) (y : Y) → OpensFile {X = X} {E = E} layout zone content a b (Ok x) → OpensFile {X = Y} {E = D} layout zone content a b (Ok y)
   reported_as a b x y it = record { ok = it.ok; err = tt; survives = it.survives }
 
@@ -191,7 +193,8 @@ third zone content s it = record {
   survives = record { clean = omega arith; shield = λ is. is; counts = omega arith; limit = refl; closes = λ clean is. inl is; crash = λ clean db left. inl left };
 }
 
--- If a connection is open to a file without uncommitted changes, it sees the tables of the file.
+-- If a connection is open to a file and has no uncommitted changes, it sees the committed tables of
+-- the file.
 pub seen : (layout : Layout) (zone : List ℕ) (content : Content) (s : State) → IsOpenTo layout zone content s → IsFile layout zone s.now content
 seen layout zone content s it = subst (λ d. IsFile layout zone d content) (sym it.settled) it.file
 

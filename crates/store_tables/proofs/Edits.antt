@@ -70,7 +70,7 @@ module _ (p : Row → Bool) where
   chosen rows = ids_of (filter p rows)
 
   -- If a row's rowid differs from the rowids of all rows in a list, it differs from those of the
-  -- rows that pass test `p`.
+  -- rows that pass a test.
   none_of : (r : Row) (rows : List Row) → rowid r ≡ Int (id_of r) → AllByRecursion (λ y. same_id (id_of r) y ≡ false) (map id_of rows) → picks (chosen rows) r ≡ false
   none_of r [] keyed apart = refl
   none_of r (s ∷ rows) keyed apart = elim (cases_Bool (p s)) [

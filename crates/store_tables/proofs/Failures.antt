@@ -1,4 +1,5 @@
--- Proofs that a query of the store fails only for the causes in `IsStoreError`.
+-- Proofs that a query of the store fails only for permitted causes, such as out of memory or a
+-- failed disk.
 use Rattle.std.proofs.Common.{◌≡◌, ◌⊎◌, inl, inr, ℕ, ◌≤◌, List, [], ◌∷◌, length, false, true, Option, Ok, Err, Result, IfOk, IfErr, IsErrAnd, MatchResult, nat_le, IsTrue, IsSome, codes, refl, sym, ap, subst, ◌∙◌, arith, append-nil}
 use Rattle.std.proofs.lemmas.Bool.{leb-true, cases_Bool}
 use Rattle.sqlite.specs.Order.{Row}
@@ -67,7 +68,8 @@ pub passed : {X E : Type 0} (P : E → Type 0) (e : E) (r : Result X E) → IsEr
 passed P e (Ok x) fails h = absurd fails
 passed P e (Err d) fails h = subst P (sym fails) h
 
--- Lemmas: a query of the store fails only for a cause in `IsStoreError`.
+-- Lemmas: a query of the store fails only for a permitted cause, such as out of memory or a failed
+-- disk.
 
 -- True if a database with the schema `schema` can answer the query `sql` with the parameters
 -- `params`.
@@ -137,14 +139,15 @@ pub failed_on : {A : Type 0} (P : A → Type 0) (Q : Error → Type 0) (e : Erro
 failed_on P Q e (Ok a) fails h = absurd fails
 failed_on P Q e (Err d) fails h = subst Q (sym fails) h
 
--- Lemmas: if the second of two calls fails, its cause is also a cause of both calls together.
+-- Lemmas: if the second of two calls fails, its cause is also a permitted cause for both calls
+-- together.
 
 pub on_err : {X E : Type 0} {P Q : E → Type 0} (r : Result X E) → ((e : E) → P e → Q e) → IfErr r P → IfErr r Q
 on_err (Ok x) f h = tt
 on_err (Err e) f h = f e h
 
--- If no call was made on a connection, its state satisfies `StateAfterCall`, which relates the
--- states before and after a call.
+-- The relation `StateAfterCall` between the states before and after a call also relates each state
+-- to itself, as if no call was made.
 pub still_goes : (a : State) → StateAfterCall a a
 still_goes a = record { faults = omega arith; closes = λ is. inl is; limit = refl }
 

@@ -27,7 +27,8 @@ use Rattle.store_tables.specs.Schema.{books_schema}
 use Rattle.store_tables.specs.Layouts.{first_tables}
 use Rattle.store_tables.specs.Growing.{HasFirst, Grows}
 
--- Lemmas on which tables are among the first tables of the schema, by the numbers of their B-trees.
+-- Lemmas on whether the table in the B-tree with a given number is among the first `n` tables of
+-- the schema.
 
 pub has_not : (tables : List Table) (t : ℕ) → list_any (λ (x : Table). x.tree == t) tables ≡ false → HasTree tables t → ⊥
 has_not [] t off has = has

@@ -11,8 +11,8 @@ use Rattle.store_tables.specs.Content.{reported, id_of, changed_where, without_w
 use Rattle.store_tables.proofs.Permuted.{unmapped}
 use Rattle.store_tables.proofs.Edits.{changed}
 
--- The stored row with the given columns. The rowid comes first, unless the columns begin with the
--- rowid.
+-- The stored row with the given columns: the rowid is put before the columns, unless they already
+-- begin with the rowid.
 abbrev pub laid : Bool → ℤ → Row → Row
 laid true n columns = columns
 laid false n columns = Int n ∷ columns

@@ -26,8 +26,8 @@ filled zone a b c x r one two =
     let turned = turns nothing (grows nothing (blank a.now is)) in
     (turned.0, record { marked = turned.1.rows [] (IsPermutation-refl []); empty = λ t off. turned.1.others t off }, turned.2))
 
--- If a transaction satisfies the contract `TransactsTo`, it also satisfies the contract with any
--- other value in Ok.
+-- Whether a successful transaction satisfies the contract `TransactsTo` does not depend on the
+-- value in Ok.
 pub made_as : {X Y E D : Type 0} (a b : State) (x : X) (y : Y) (Goes : Database → Database → Type 0) → TransactsTo {X = X} {E = E} a b (Ok x) Goes → TransactsTo {X = Y} {E = D} a b (Ok y) Goes
 made_as a b x y Goes it = record { ok = it.ok; err = λ clean. tt; survives = it.survives }
 
@@ -38,7 +38,7 @@ pub passed_on : {X Y E D : Type 0} (a b : State) (e : E) (r : Result Y D) (Q : D
 passed_on a b e (Ok y) Q Goes fails it = absurd fails
 passed_on a b e (Err d) Q Goes fails it = record { ok = λ clean. tt; err = it.err; survives = it.survives }
 
--- If creating a file fails before any call, the database is unchanged.
+-- If creating a file fails before the first call to the database, the database is unchanged.
 pub unmade : {X E : Type 0} (a : State) (r : Result X E) (Q : E → Type 0) (Goes : Database → Database → Type 0) → IsErrAnd r Q → TransactsTo a a r Goes
 unmade a (Ok x) Q Goes fails = absurd fails
 unmade a (Err e) Q Goes fails = record {

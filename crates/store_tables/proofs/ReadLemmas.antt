@@ -69,8 +69,8 @@ then_read (Err f) next b e = absurd (let g = e in cc)
 
 -- Lemmas: if a row was read successfully, each of its values is within its bounds.
 
--- True if reading a row returned `b`: the first column has `value`, and `next` returned `b` from
--- the other columns.
+-- True if reading a row returned `b`: the first column has a valid value, and `next` returned `b`
+-- from the other columns.
 pub record HasRead {X B : Type 0} (o : Option X) (next : X → Result B RowFault) (b : B) : Type 0 where
   pub value : X
   pub is : o ≡ Some value

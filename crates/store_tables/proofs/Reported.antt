@@ -38,7 +38,7 @@ is_store : (a b : State) (e : OpenFault) → (e ≡ Store) ⊎ (e ≡ Memory) �
 is_store a b e (inl is) own = subst (IsOwnFault a b) (sym is) own
 is_store a b e (inr is) own = subst (IsOwnFault a b) (sym is) tt
 
--- If a call of the database fails, the reported fault is about the database itself, not about the
+-- If a call to the database fails, the reported fault is about the database itself, not about the
 -- file's content.
 pub own_fault : (a b : State) (error : Error) (e : OpenFault) → e ≡ fault_of error → (e ≡ Store) ⊎ (e ≡ Memory) → a.faults ≤ b.faults → IsStoreError a b error → IsOwnFault a b e
 own_fault a b error e is kind up (inl want) = subst (IsOwnFault a b) (sym (is ∙ ap fault_of want)) tt
@@ -51,7 +51,7 @@ later_own a b c Memory goes own = tt
 later_own a b c NotOurs goes own = absurd own
 later_own a b c NoZone goes own = absurd own
 
--- Lemmas on the result of opening a file, by its version and time zone.
+-- Lemmas on the result of opening a file, given the file's version and time zone.
 
 -- If the database itself fails, the contract of opening a file is satisfied, whatever version and
 -- time zone the file has.
@@ -100,8 +100,8 @@ reports_well version m a b c z it = record {
   kept = tt;
 }
 
--- If a call runs before the query of `meta`, both together satisfy the contract of opening the
--- file.
+-- If a call that commits nothing runs before the query of `meta`, the call and the query together
+-- satisfy the contract of opening the file.
 pub reports_since : (version : ℕ) (m : Meta) (a b c : State) (r : Result Zone OpenFault) → StateAfterCall a b → KeepsCommit a b → ReportsOpening version m b c r → ReportsOpening version m a c r
 reports_since version m a b c (Ok z) goes kept it = record {
   other = λ off. ((it.other off).0, tt);

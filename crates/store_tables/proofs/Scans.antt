@@ -30,7 +30,8 @@ no_limit = lit (Int (negsuc 0))
 abbrev pub one : Term
 one = lit (Int (pos 1))
 
--- The SQL test that a column equals a parameter, by their indices.
+-- The SQL test that a column equals a parameter, given the index of the column and of the
+-- parameter.
 abbrev pub is_param : (column param : ℕ) → Term
 is_param column param = op2 (Compare Eq Binary) (col 1 column) (col 0 param)
 
@@ -98,7 +99,8 @@ asked params tree tests project db rows a =
     subst (IsPermutation (map (shows params project) (filter (passes params tests) (db tree)))) (sym a.shown)
     (subst (λ xs. IsPermutation xs (map (λ (o : Output). o.1) a.ordered)) (ap (map (λ (o : Output). o.1)) (kept_are params tree tests project [] no_limit db rows a) ∙ shown_are params tree tests project [] no_limit (filter (passes params tests) (db tree))) shown)
 
--- Lemmas: a test of a WHERE clause is true exactly if its Boolean value is true.
+-- Lemmas: SQLite's comparison of two texts or numbers in a WHERE clause is true exactly if they are
+-- equal.
 
 truth_back : (b : Bool) → is_true (from_truth (Some b)) ≡ b
 truth_back true = refl

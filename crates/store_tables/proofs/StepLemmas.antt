@@ -151,7 +151,7 @@ module _ {S : Type 0} (g : Ghosts S) (old : Held S) (mid end : State) (Goes : Da
 
 -- Lemmas: a query inside or outside a transaction changes no row and commits nothing.
 
--- If a query is Ok, the database stays unchanged.
+-- If a query succeeds, the database stays unchanged.
 pub shown_same : (sql : List ℕ) (params : Row) (old new : State) (rows : List Row) → IsPlain (understood old.now.schema sql) → Shown sql params old new rows → IsUnchanged old new
 unfolding Shown
 shown_same sql params old new rows plain h =

@@ -1,4 +1,5 @@
--- The SQL statements that create and open a file, and what SQLite's parser makes of them.
+-- The SQL statements that create and open a file, and the commands that SQLite's parser builds from
+-- their texts.
 use Rattle.std.proofs.Common.{◌≡◌, ℕ, pos, List, [], ◌∷◌, codes, false, Ok, refl}
 use Rattle.sqlite.specs.declared.types.Value.TheVariants.{Null, Int}
 use Rattle.sqlite.specs.Term.{Term, lit, col}
@@ -162,7 +163,7 @@ pub voids_plain : IsPlain (understood (first_tables 12) voids)
 unfolding understood everything
 voids_plain = (refl, refl)
 
--- The SQL texts on the table `meta`, and what SQLite's parser makes of these texts.
+-- The SQL texts on the table `meta`, and the commands that SQLite's parser builds from these texts.
 
 abbrev pub insert_meta : List ℕ
 insert_meta = codes "INSERT INTO meta (id, version, zone) VALUES (1, 3, ?1)"
@@ -225,7 +226,8 @@ meta_rows_suits First = suits_scan 0 [] meta_rows_project [] no_limit meta_rows 
 meta_rows_suits Second = suits_scan 0 [] meta_rows_project [] no_limit meta_rows meta_rows_names [] (refl, refl, refl) (meta_rows_plain Second) (meta_rows_unlisted Second) (meta_rows_is Second) refl
 meta_rows_suits Third = suits_scan 0 [] meta_rows_project [] no_limit meta_rows meta_rows_names [] (refl, refl, refl) (meta_rows_plain Third) (meta_rows_unlisted Third) (meta_rows_is Third) refl
 
--- The SQL text of the query for the names of meters, and what SQLite's parser makes of this text.
+-- The SQL text of the query for the names of meters, and the command that SQLite's parser builds
+-- from this text.
 
 abbrev pub meter_rows : List ℕ
 meter_rows = codes "SELECT meter FROM installations"

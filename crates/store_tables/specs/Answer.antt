@@ -4,23 +4,23 @@ use Rattle.std.specs.List.{AllByRecursion}
 use Rattle.std.specs.List.Sorted.{IsPermutation}
 use Rattle.sqlite.specs.Tree.{IsAscending}
 
--- True if `found` lists the rows that pass a test, and `Later` relates each row to every row after
--- it in `found`.
+-- True if a result lists the rows that pass a test, and `Later` relates each row to every row after
+-- it in the result.
 pub record AreFound {X : Type 0} (passes : X → Bool) (Later : X → X → Type 0)
     (rows found : List X) : Type 0 where
   pub all : IsPermutation (filter passes rows) found
   pub order : IsAscending Later found
 
 module _ {X A : Type 0} (passes : X → Bool) (IsSeen : X → A → Type 0) where
-  -- True if a query for one row returns the value of a row that passes its test, or None if no row
-  -- passes.
+  -- True if a query for one row returns the value of some row that passes the WHERE test, or None
+  -- if no row passes.
   abbrev pub IsFound : List X → Option A → Type 0
   IsFound rows None = filter passes rows ≡ []
   IsFound rows (Some a) =
       (x : X) × IsSeen x a × (others : List X) × IsPermutation (filter passes rows) (x ∷ others)
 
-  -- True if a query returns the value of the passing row with the greatest key, or None if no row
-  -- passes.
+  -- States that a query returns the value of the row with the greatest key among the rows that pass
+  -- the WHERE test. If no row passes, the query returns None.
   abbrev pub IsLast : (key : X → ℕ) → List X → Option A → Type 0
   IsLast key rows None = filter passes rows ≡ []
   IsLast key rows (Some a) =

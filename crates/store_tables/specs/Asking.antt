@@ -33,20 +33,23 @@ pub record AsksInside {S X E : Type 0} (g : Ghosts S) (old new : Held S) (result
       → OnOk result (IsTrue new.in_transaction × ((state g new).now ≡ (state g old).now))
   pub survives : Survives (state g old) (state g new) (λ _. ⊥)
 
--- True if `answer` is the result of a SELECT: the rows that pass its WHERE test, in its order.
+-- True if a list of result rows is the result of a SELECT: the rows that pass the WHERE test, in
+-- the order `Later`.
 abbrev pub Shows : {X : Type 0} → (passes : X → Bool) → (Later : X → X → Type 0) → (shown : X → Row)
     → (rows : List X) → (answer : List Row) → Type 0
 Shows {X} passes Later shown rows answer =
     (found : List X) × AreFound passes Later rows found × (answer ≡ map shown found)
 
--- True if `answer` is the result of a SELECT with LIMIT 1: its first matching row, or no row.
+-- True if a list of result rows is the result of a SELECT with LIMIT 1: the first matching row, or
+-- nothing if none matches.
 abbrev pub ShowsFirst : {X : Type 0} → (passes : X → Bool) → (Later : X → X → Type 0)
     → (shown : X → Row) → (rows : List X) → (answer : List Row) → Type 0
 ShowsFirst {X} passes Later shown rows answer =
     (found : List X) × AreFound passes Later rows found × (answer ≡ take 1 (map shown found))
 
--- True if an Ok answer of a query follows from the rows of one table, and an error has a cause in
--- `IsStoreError`.
+-- True if an Ok answer of a query follows from the rows of one table, and any error has a permitted
+-- cause. Permitted causes are out of memory, a closed database, a failed disk and SQLite's limit of
+-- steps.
 abbrev pub ReportsAnswer : {S A X : Type 0} → Ghosts S → (old new : Held S) → (tree : ℕ)
     → (columns : X → Row) → (result : Result A Error) → (Answers : List X → A → Type 0) → Type 0
 ReportsAnswer {S} {A} {X} g old new tree columns result Answers =
@@ -54,8 +57,8 @@ ReportsAnswer {S} {A} {X} g old new tree columns result Answers =
     → (rows : List X) → HasRows tree columns rows content
     → MatchResult result (Answers rows) (IsStoreError (state g old) (state g new))
 
--- True if the rows of an Ok answer follow from the rows of one table, and an error has a cause in
--- `IsStoreError`.
+-- True if the rows of an Ok answer follow from the rows of one table, and any error has a permitted
+-- cause. Examples of permitted causes are out of memory and a failed disk.
 abbrev pub ReportsRows : {S X Z : Type 0} → Ghosts S → (old new : Held S) → (tree : ℕ)
     → (columns : X → Row) → (result : Result (Vec Row Z) Error)
     → (Answers : List X → List Row → Type 0) → Type 0
@@ -69,9 +72,9 @@ pub record ReadsRow {A X : Type 0} (row : Row) (shown : X → Row) (IsSeen : X �
   pub read : (x : X) → row ≡ shown x → IfOk result (IsSeen x)
   pub fault : (x : X) → row ≡ shown x → IfErr result (IsRowFault (IsSound x))
 
--- True if a function runs one query, and its Ok answer follows from the table's rows. It reports
--- `Damaged` only if a row has a value out of its range. Any other fault has a cause in
--- `IsStoreError`.
+-- True if a function runs one query, and its Ok answer follows from the table's rows. The function
+-- reports `Damaged` only if a row has a value out of its range. Any other fault has a permitted
+-- cause, such as out of memory or a failed disk.
 pub record LooksUp {S A X : Type 0} (g : Ghosts S) (old new : Held S) (tree : ℕ) (columns : X → Row)
     (IsSound : X → Type 0) (result : Result A RowFault) (Answers : List X → A → Type 0) : Type 0
   where

@@ -72,14 +72,14 @@ pub record Edits {X : Type 0} (tree : ℕ) (columns : X → Row) (edit : List X 
   pub rows : (xs : List X) → HasRows tree columns xs content → HasRows tree columns (edit xs) after
   pub others : (t : ℕ) → t ≢ tree → after t ≡ content t
 
--- The rows of a table after an INSERT: the row `x` is added.
+-- The rows of a table after an INSERT of one row.
 abbrev pub with_row : {X : Type 0} → X → List X → List X
 with_row x xs = x ∷ xs
 
--- The rows of a table after an UPDATE: each row that passes the test `p` is changed by `f`.
+-- The rows of a table after an UPDATE: a function is applied to each row that passes a test.
 abbrev pub changed_where : {X : Type 0} → (X → Bool) → (X → X) → List X → List X
 changed_where p f xs = map (λ x. if p x then f x else x) xs
 
--- The rows of a table after a DELETE: only rows that fail the test `p` remain.
+-- The rows of a table after a DELETE: only the rows that fail a test remain.
 abbrev pub without_where : {X : Type 0} → (X → Bool) → List X → List X
 without_where p xs = filter (λ x. not (p x)) xs

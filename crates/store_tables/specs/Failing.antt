@@ -25,13 +25,13 @@ IsStoreError old new e =
     ⊎ (HasFailed old new
     ⊎ ((e ≡ SqliteFailure OperationInterrupted) × IsSome old.step_limit))
 
--- True if a query may fail with a fault: an error with a cause in `IsStoreError`, or `Damaged` if a
--- row has a value out of its range.
+-- True if this fault is permitted for a query. An error of SQLite must have a permitted cause, such
+-- as out of memory. `Damaged` is permitted only if a row has a value out of its range.
 abbrev pub IsFault : (old new : State) → (IsSound : Type 0) → RowFault → Type 0
 IsFault old new IsSound (Sql e) = IsStoreError old new e
 IsFault old new IsSound Damaged = ¬ IsSound
 
--- True if the reader of a row may fail with a fault: out of memory, or `Damaged` if the row has a
+-- True if this fault is permitted for a row's reader: out of memory, or `Damaged` if the row has a
 -- value out of its range.
 abbrev pub IsRowFault : (IsSound : Type 0) → RowFault → Type 0
 IsRowFault IsSound (Sql e) = e ≡ want_of_memory

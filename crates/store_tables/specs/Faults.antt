@@ -1,4 +1,5 @@
--- Definitions of why a database file is not opened or not created, and the numbers of these faults.
+-- The reasons why a database file is not opened or not created, and the numeric codes of these
+-- reasons.
 use Rattle.std.specs.Prelude.{⊤, ◌≤◌, ◌⊎◌, ℕ, IsSome}
 use Rattle.sqlite.specs.State.{State}
 use Rattle.sqlite.specs.declared.error.ErrorCode.TheVariants.{OutOfMemory}
@@ -8,14 +9,14 @@ use Rattle.store_tables.specs.Failing.{HasFailed}
 use Rattle.store_tables.specs.declared.open_faults.OpenFault.{OpenFault}
 use Rattle.store_tables.specs.declared.open_faults.OpenFault.TheVariants.{NotOurs, Zone, Store, Memory}
 
--- The number of a fault in opening or creating a file.
+-- The numeric code of a fault in opening or creating a file.
 abbrev pub open_fault_number : OpenFault → ℕ
 open_fault_number NotOurs = 1
 open_fault_number Zone = 2
 open_fault_number Store = 3
 open_fault_number Memory = 4
 
--- True if a fault of opening a file came from the database, not from the file's content. The
+-- True if a fault of opening a file came from the database, not from the file's content. Either the
 -- database was closed, its disk failed, it reached SQLite's limit of steps, or memory ran out.
 abbrev pub IsOwnFault : (old new : State) → OpenFault → Type 0
 IsOwnFault old new Store =

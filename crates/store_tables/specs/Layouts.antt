@@ -16,8 +16,8 @@ no_schema = record { tables = []; indexes = []; views = [] }
 abbrev pub is_index_of : List Table → Index → Bool
 is_index_of tables i = list_any (λ (t : Table). t.tree == i.table) tables
 
--- The schema with the first `n` tables of the store, in the order in which they are created, and
--- with their indexes.
+-- The schema with the given number of first tables of the store, in the order in which they are
+-- created, and with their indexes.
 abbrev pub first_tables : ℕ → Schema
 first_tables n =
     let tables = take n books_schema.tables in

@@ -7,7 +7,7 @@ use Rattle.store_tables.specs.declared.limits.TheConstants.{GREATEST_PLACE}
 abbrev pub greatest_place : ℕ
 greatest_place = GREATEST_PLACE
 
--- True if a number can be the index of a row: from 1 to `greatest_place`.
+-- True if a number can be the index of a row: from 1 to 2^62.
 abbrev pub IsPlace : ℕ → Type 0
 IsPlace place = (1 ≤ place) × (place ≤ greatest_place)
 

@@ -5,8 +5,8 @@ use Rattle.store_tables.specs.Content.{Content, AreTables}
 use Rattle.store_tables.specs.Layouts.{no_schema}
 use Rattle.store_tables.specs.Meta.{meta, IsMarked}
 
--- True if a new file has only one row in all tables: the row of `meta` with version 3 and the time
--- zone `zone`.
+-- True if all tables of a new file are empty except `meta`, which has one row with version 3 and
+-- the time zone `zone`.
 pub record IsNew (zone : List ℕ) (content : Content) : Type 0 where
   pub marked : IsMarked (record { version = 3; zone = zone }) content
   pub empty : (t : ℕ) → t ≢ meta → content t ≡ []

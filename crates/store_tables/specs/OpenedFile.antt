@@ -45,7 +45,7 @@ pub record ReportsOpening (version : ℕ) (m : Meta) (old new : State)
   pub kept : OnErr result (KeepsCommit old new)
 
 -- The contract of the query for the time zone in a file of a given layout (version). The query
--- changes nothing and commits nothing.
+-- commits nothing, and changes nothing if it succeeds.
 pub record FindsZone (layout : Layout) (content : Content) (old new : State)
     (result : Result Zone OpenFault) : Type 0 where
   pub kept : KeepsCommit old new
@@ -53,15 +53,16 @@ pub record FindsZone (layout : Layout) (content : Content) (old new : State)
   pub survives : Survives old new (λ _. ⊥)
   pub reported : (m : Meta) → IsMarked m content → ReportsOpening (version_of layout) m old new result
 
--- The contract of opening a file of a given layout (version). The connection must be open, without
--- uncommitted changes.
+-- The contract of opening a file of a given layout (version). Nothing is stated if the connection
+-- is closed or has uncommitted changes.
 abbrev pub ReportsOfLayout : Layout → (old new : State) → Result Zone OpenFault → Type 0
 ReportsOfLayout layout old new result =
     (content : Content) → IsTrue old.is_open → old.now ≡ old.committed
     → AreTablesIn (schema_of layout) old.now content
     → (m : Meta) → IsMarked m content → ReportsOpening (version_of layout) m old new result
 
--- The contract of opening a file of any layout (version). The result depends on the row of `meta`.
+-- The contract of opening a file of any layout (version). The result depends on the version and the
+-- time zone in `meta`.
 abbrev pub ReportsOfFile : (old new : State) → Result Zone OpenFault → Type 0
 ReportsOfFile old new result =
     (layout : Layout) (content : Content) → AreTablesIn (schema_of layout) old.committed content

@@ -12,19 +12,19 @@ use Rattle.store_tables.specs.Content.{Content, AreTablesIn}
 abbrev pub IsSameBorrow : {X : Type 0} → MutBor X → MutBor X → Type 0
 IsSameBorrow old new = new.ghost_name ≡ old.ghost_name
 
--- True if both databases have the schema `schema`, and the effect `Makes` of a call relates each
--- old content of the tables to a new content.
+-- Suppose that the old database has the schema with some content. Then the new database has the
+-- schema too, and the given relation relates the old content to the new content.
 abbrev pub TurnsIn : Schema → (Content → Content → Type 0) → Database → Database → Type 0
 TurnsIn schema Makes old new = (content : Content) → AreTablesIn schema old content
     → (after : Content) × Makes content after × AreTablesIn schema new after
 
--- True if both databases have the store's schema, and the effect `Makes` of a call relates each old
--- content of the tables to a new content.
+-- Suppose that the old database has the store's schema with some content. Then the new database has
+-- this schema too, and the given relation relates the old content to the new content.
 abbrev pub Turns : (Content → Content → Type 0) → Database → Database → Type 0
 Turns = TurnsIn books_schema
 
--- The contract of a call inside a transaction. At Ok, `Goes` relates the new database to the old
--- one. The call commits nothing.
+-- The contract of a call inside a transaction. At Ok, the given relation holds between the old and
+-- the new database. The call commits nothing.
 pub record StepsTo {X E : Type 0} (old new : State) (result : Result X E)
     (Goes : Database → Database → Type 0) : Type 0 where
   pub kept : HasCleanDisk new → IsTrue old.in_transaction → KeepsCommit old new
@@ -33,8 +33,8 @@ pub record StepsTo {X E : Type 0} (old new : State) (result : Result X E)
   pub rows : HasCleanDisk new → IsTrue old.in_transaction → OnOk result (Goes old.now new.now)
   pub survives : Survives old new (λ _. ⊥)
 
--- The contract of a call inside a transaction. At Ok, `Makes` relates the new content of the
--- store's tables to the old content.
+-- The contract of a call inside a transaction. At Ok, the given relation holds between the old and
+-- the new content of the store's tables.
 abbrev pub Steps : {X E : Type 0} → State → State → Result X E → (Content → Content → Type 0)
     → Type 0
 Steps old new result Makes = StepsTo old new result (Turns Makes)
@@ -48,8 +48,8 @@ pub record TransactsTo {X E : Type 0} (old new : State) (result : Result X E)
   pub err : HasCleanDisk new → OnErr result (KeepsCommit old new)
   pub survives : Survives old new (λ trees. (db : Database) × Goes old.now db × (trees ≡ db.trees))
 
--- The contract of a complete transaction after which `Makes` relates the new content of the store's
--- tables to the old content.
+-- The contract of a complete transaction after which the given relation holds between the old and
+-- the new content of the store's tables.
 abbrev pub Transacts : {X E : Type 0} → State → State → Result X E → (Content → Content → Type 0)
     → Type 0
 Transacts old new result Makes = TransactsTo old new result (Turns Makes)

@@ -46,8 +46,8 @@ HasVoids First content after = after voids ≡ []
 HasVoids Second content after = after voids ≡ []
 HasVoids Third content after = after voids ≡ content voids
 
--- The tables after an upgrade. `meta` has version 3 and the old time zone, and all other rows are
--- unchanged.
+-- The tables after an upgrade. `meta` has version 3 and the old time zone, and `ranges` and `voids`
+-- satisfy `HasRanges` and `HasVoids`. All other tables keep their rows.
 pub record IsBrought (layout : Layout) (zone : List ℕ) (content after : Content) : Type 0 where
   pub marked : IsMarked (record { version = 3; zone = zone }) after
   pub with_ranges : HasRanges layout content after
@@ -130,8 +130,8 @@ pub record IsOpenTo (layout : Layout) (zone : List ℕ) (content : Content) (s :
   pub settled : s.now ≡ s.committed
   pub file : IsFile layout zone s.committed content
 
--- The contract of opening a file of any layout (version): for each layout, `OpensFile` holds if the
--- connection is open to such a file.
+-- The contract of opening a file of any layout (version): the call satisfies the contract for the
+-- file's layout. If the connection is closed, it satisfies the contract for every layout.
 abbrev pub OpensAnyFile : {X E : Type 0} → (old new : State) → Result X E → Type 0
 OpensAnyFile old new result =
     (layout : Layout) (zone : List ℕ) (content : Content)

@@ -61,7 +61,7 @@ fn make<S: Alter>(conn: &mut Connection<S>, zone: &str) -> Result<(), OpenFault>
 }
 
 /// Creates the tables of a new store in a database without tables, and returns the store's time
-/// zone. Runs one transaction, whose commit is the last call of the database.
+/// zone. Runs one transaction, whose commit is the last call to the database.
 ///
 /// Faults: `NotOurs` if the database has any table, index or view, or a transaction is open. `Zone`
 /// if `zone` is not a valid time zone.

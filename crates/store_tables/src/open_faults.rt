@@ -22,8 +22,8 @@ pub enum OpenFault {
 }
 
 impl OpenFault {
-    /// Returns the number of a fault in opening or creating a file, from 1. No text of the program
-    /// shows the number.
+    /// Returns the numeric code of a fault in opening or creating a file, from 1. `sunreg` never
+    /// prints this code.
     pub fn number(self) -> u8
         ensures { result ≡ open_fault_number self }
     {

@@ -155,7 +155,7 @@ fn open_as<S: Alter>(conn: &mut Connection<S>, found: Layout) -> Result<Zone, Op
 }
 
 /// Opens a file, and returns its time zone. Upgrades a file of version 1 or 2 to version 3 in one
-/// transaction, whose commit is the last call of the database. Each meter of version 1 gets a
+/// transaction, whose commit is the last call to the database. Each meter of version 1 gets a
 /// counter that rolls over at 2^32.
 ///
 /// Faults: `NotOurs` if a transaction is open, or if `meta` has another version than the tables.

@@ -114,7 +114,7 @@ fn open_first<S: Alter>(conn: &mut Connection<S>) -> Result<(), Error>
 }
 
 /// Upgrades a file of any version to version 3. After an error the file is unchanged. The commit is
-/// the last call of the database.
+/// the last call to the database.
 pub(crate) fn bring<S: Alter>(conn: &mut Connection<S>, layout: Layout) -> Result<(), Error>
     requires autocommit { conn.old.in_transaction ≡ false }
     ensures autocommit { conn.new.in_transaction ≡ false }

@@ -20,13 +20,14 @@ pub(crate) enum Act {
     Bring,
     /// Runs all steps of a test over a new store: the events of a script, and then a request.
     Play(Asked),
-    /// Asserts which rows the file of version 1 has after a crash during its upgrade, given how
-    /// many steps of the upgrade had succeeded.
+    /// Asserts which rows the file of version 1 has after a crash during its upgrade. The number
+    /// says how many steps of the upgrade had succeeded.
     Brought(usize),
     /// Asserts which rows the database file has after a crash, given the request and how many steps
     /// had succeeded.
     Played(Asked, usize),
-    /// The variant `Damage` and those below each run a test that begins with an empty database.
+    /// The variant `Damage` and the variants below it each run a test that begins with an empty
+    /// database.
     Damage,
     Databases,
     HeldReadings,
@@ -78,7 +79,7 @@ pub(crate) fn act_in(
     }
 }
 
-/// Returns the files of an empty database, on which no call fails.
+/// Returns the files of an empty database in memory. No call to these files fails.
 pub(crate) fn empty_files(rt: &impl Abort, alloc: Global) -> Files<Fuse<Memory>> {
     let never = Stop {
         file: Stopping::Log,
@@ -98,7 +99,7 @@ static TESTS: [Act; 5] = [
 ];
 
 // Checks that a store counts its failures, and that opening a database without a store returns the
-// database to the caller. Also checks the fields of rejected readings, the days of a range, and
+// connection to the caller. Also checks the fields of rejected readings, the days of a range, and
 // that refused records leave no row.
 #[test]
 fn stores_keep_what_they_promise(rt: HostRuntime) {

@@ -1,12 +1,12 @@
-//! Tests that the caller gets the database back if it contains no store, and that no store is
-//! created or opened inside a transaction.
+//! Tests that the caller gets the connection back if the database contains no store. Also tests
+//! that no store is created or opened inside a transaction.
 use office_store::SqlBooks;
 use sqlite::{Alter, Connection};
 use std::alloc::Global;
 use std::process::Abort;
 
 /// Creates a store with the given time zone, or opens a store if no time zone is given. Returns the
-/// connection, and the number of the fault, or 0 without a fault.
+/// connection, and the numeric code of the fault, or 0 if there was no fault.
 fn opening<S: Alter + Drop>(
     alloc: Global,
     connection: Connection<S>,
@@ -23,8 +23,8 @@ fn opening<S: Alter + Drop>(
 }
 
 /// A test step: an SQL statement that runs first, the time zone of the store that is then created,
-/// and the number of the expected fault (0 for none). Without a time zone, a store is opened
-/// instead.
+/// and the numeric code of the expected fault (0 if none). If the time zone is `None`, a store is
+/// opened instead.
 type Step = (&'static str, Option<&'static str>, u8);
 
 static STEPS: [Step; 10] = [
@@ -40,8 +40,8 @@ static STEPS: [Step; 10] = [
     ("UPDATE meta SET version = 9", None, 1),
 ];
 
-/// Executes a test step: runs its SQL statement, creates or opens a store, and asserts the number
-/// of the fault. Returns the connection.
+/// Executes a test step: runs its SQL statement, creates or opens a store, and asserts the numeric
+/// code of the fault. Returns the connection.
 fn stepped<S: Alter + Drop>(
     rt: &impl Abort,
     alloc: Global,

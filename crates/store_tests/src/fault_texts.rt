@@ -1,5 +1,5 @@
-//! Tests the texts of faults in a database's tables and in its file, and the numbers of faults. No
-//! command prints these texts.
+//! Tests the texts of faults in a database's tables and in its file, and the numeric codes of
+//! faults. No command prints these texts.
 use sqlite::Error;
 use std::alloc::Global;
 use std::fmt::Display;
@@ -40,7 +40,7 @@ const ROWS: [(RowFault, &str); 2] = [
     ),
 ];
 
-/// The faults with which opening a store can fail, with their numbers.
+/// The faults with which opening a store can fail, with their numeric codes.
 static OPENINGS: [(OpenFault, u8); 4] = [
     (OpenFault::NotOurs, 1),
     (OpenFault::Zone, 2),
@@ -56,7 +56,7 @@ static CONNECTIONS: [(FileFault, u8); 5] = [
     (FileFault::Memory, 5),
 ];
 
-// Checks that each fault has its text and its number.
+// Checks that each fault has its text and its numeric code.
 #[test]
 fn faults_have_their_texts_and_numbers(rt: HostRuntime) {
     assert_texts(&rt, rt.alloc(), &FILES);

@@ -9,8 +9,8 @@ use sqlite::{Alter, Connection};
 use std::alloc::Global;
 use std::process::Abort;
 
-/// SQL statements that insert two rejected readings of the meter m1, and one of the meter m0
-/// between them. The second reading of m1 has an earlier timestamp than the first.
+/// SQL statements that insert two rejected readings of the meter m1, and between them one rejected
+/// reading of the meter m0. The second reading of m1 has an earlier timestamp than the first.
 const HOLDS: &str =
     "DELETE FROM holds; INSERT INTO installations VALUES (2, 'm0', 'main', 20000, 1, 2000, 0, 0, 0);
 INSERT INTO holds VALUES (3, 'm1', 2, 1500, 4294967295, -32768, 1), (1, 'm1', 1, 1900, 0, 32767, 8), (2, 'm0', 2, 2000, 7, 0, 6)";
@@ -47,7 +47,8 @@ fn held<S: Alter + Drop>(
     conn
 }
 
-/// Asserts that a query returns the given rejected readings of the meter m1, in the given order.
+/// Asserts that a query for a span of time returns the given rejected readings of the meter m1, in
+/// the given order.
 fn assert_readings<S: Alter>(
     rt: &impl Abort,
     alloc: Global,

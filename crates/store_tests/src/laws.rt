@@ -1,5 +1,5 @@
 //! Calls the theorems about the energy of several files. A theorem is a function whose contract
-//! states a fact. Also tests the days of a range.
+//! states a fact. The file also tests how many days a query for a range of days returns.
 use crate::made::{create_store, opened};
 use crate::stops::offices::accepts;
 use carried_books::{
@@ -49,7 +49,7 @@ fn days_between<B: Books>(rt: &impl Abort, office: &mut Office<B>, from: &str, t
 }
 
 /// Asserts the number of days with energy in several ranges. A range that ends before its beginning
-/// has no days, although no command makes such a query. Returns the store.
+/// has no days; no command makes a query for such a range. Returns the store.
 fn ranges_over<B: Books>(rt: &impl Abort, alloc: Global, books: B) -> B {
     let mut office = opened(rt, alloc, books, 0);
     for line in DAY.lines() {

@@ -1,6 +1,6 @@
-//! Tests of a store in a SQLite database: crashes at each call of its files, failures, and records
+//! Tests of a store in a SQLite database: crashes at each call to its files, failures, and records
 //! that the tables refuse. Also tests how commands over files end, and which messages they print.
-//! Golden tests and tests of the program cover properties that an input text and an output text can
+//! Golden tests and tests of the program cover everything that an input text and an output text can
 //! show.
 #![tactic(auto)]
 

@@ -1,4 +1,4 @@
-//! Checks and queries on a database that only tests need.
+//! Checks and queries of a database that only tests need.
 ghost use Rattle.std.specs.Prelude.{◌≡◌, false, IfOk};
 
 use sqlite::{Alter, Connection, Error};

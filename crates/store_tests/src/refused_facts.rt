@@ -39,7 +39,7 @@ pub(crate) fn known_device(rt: &impl Abort) -> Fact {
     })
 }
 
-/// Writes the given records, and returns true if the store accepts all of them.
+/// Writes the given records in one transaction, and returns true if the store accepts all of them.
 fn is_booked<S: Alter>(
     rt: &impl Abort,
     alloc: Global,
@@ -50,7 +50,7 @@ fn is_booked<S: Alter>(
     book_facts(alloc, conn, facts).is_ok()
 }
 
-/// The number of rows in each table, which refused records must not change.
+/// The number of rows in some tables, which refused records must not change.
 static COUNTS: [(&str, i64); 4] = [
     ("devices", 1),
     ("polls", 2),
@@ -58,8 +58,9 @@ static COUNTS: [(&str, i64); 4] = [
     ("intervals", 2),
 ];
 
-/// Stores a poll and a reading, which the store accepts. Asserts that the store refuses a device
-/// that it already has, and a reading with a lower counter value. Returns the store.
+/// Asserts that the store refuses a device that it already has, and a reading with a lower counter
+/// value, and adds no row. Then asserts that the store accepts a poll and a reading. Returns the
+/// store.
 pub(crate) fn they_leave_no_row<S: Alter + Drop>(
     rt: &impl Abort,
     alloc: Global,

@@ -1,5 +1,5 @@
 //! Tests the exit statuses of commands that poll devices, serve HTTP or report energy, and the
-//! failure messages that they print.
+//! failure messages of these commands.
 use command_io::ExitStatus;
 use office_events::Refusal;
 use office_program::{PollEnd, RoundFault, ServeEnd};
@@ -111,7 +111,7 @@ const ENDS: [(Result<Done, Failure<'static>>, u8, &str); 25] = [
     (Err(Failure::Host { host: "h" }), 3, "can't resolve h"),
 ];
 
-/// The exit statuses of commands that print a text, with their numbers.
+/// The values of `ExitStatus`, each with the number that the process returns.
 const STATUSES: [(ExitStatus, u8); 3] = [
     (ExitStatus::Fine, 0),
     (ExitStatus::Refused, 1),

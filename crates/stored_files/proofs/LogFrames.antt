@@ -68,7 +68,7 @@ taken_few page_size log k room taken =
     omega (arith, within, few page_size k)
 
 -- If SQLite's recovery of a write-ahead log fails with an error, then the log has the defect that
--- the error's `LogFault` names, or memory ran out.
+-- this error reports, or memory ran out.
 pub caused : (page_size : ℕ) (log : List ℕ) (old new : ℕ) (e : Error)
     → HasCause old new (RefusesLog page_size log) e → IsUnread page_size log (fault_of e)
 caused page_size log old new (Io e) cause = tt
@@ -99,8 +99,8 @@ low_if_fits page_size len j within =
     let some = (le-div_iff_mul-le (omega arith)).1 all in
     omega (arith, some)
 
--- If SQLite's recovery can't read a write-ahead log, then the check of logs may reject the log for
--- the same reason.
+-- If SQLite's recovery can't read a write-ahead log for some reason, then the contract of
+-- `check_log` allows the log to be rejected for this reason.
 pub unread_causes : (page_size : ℕ) (log : List ℕ) (fault : LogFault) → IsUnread page_size log fault
     → IsCause page_size log fault
 unread_causes page_size log Header unread = absurd unread
@@ -108,8 +108,8 @@ unread_causes page_size log Count unread = unread
 unread_causes page_size log (Commits at) unread = absurd unread
 unread_causes page_size log Memory unread = unread
 
--- If SQLite's recovery can't read a write-ahead log, then memory ran out, or the database file does
--- not have all committed pages of the log.
+-- If SQLite's recovery can't read a write-ahead log, then memory ran out, or `KeepsAll` is false.
+-- `KeepsAll` states that the database file has all committed pages of the log.
 pub unread_refuses : (page_size : ℕ) (log db : List ℕ) (fault : LogFault) → IsUnread page_size log fault
     → (fault ≡ Memory) ⊎ (¬ KeepsAll page_size log db)
 unread_refuses page_size log db Header unread = absurd unread

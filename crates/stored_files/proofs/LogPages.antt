@@ -17,15 +17,16 @@ module _ (page_size : ℕ) (log db : List ℕ) (k : ℕ) where
   unfolding pages_after
   page_there n low high = cond-true _ _ _ (and_from _ _ (le-leb 1 n low) (le-leb n _ high))
 
--- Two optional page contents are equal if the content of each is also the content of the other.
+-- Two optional page contents are equal if, whenever one of them exists, the other exists and has
+-- the same bytes.
 same_there : (o p : Option (List ℕ)) → ((x : List ℕ) → o ≡ Some x → p ≡ Some x) → ((x : List ℕ) → p ≡ Some x → o ≡ Some x) → o ≡ p
 same_there None None left right = refl
 same_there None (Some y) left right = right y refl
 same_there (Some x) p left right = sym (left x refl)
 
 module _ (page_size : ℕ) (log db : List ℕ) (k : ℕ) where
-  -- If the database file has the page count and the page contents that a replay of the write-ahead
-  -- log gives, then the file has all pages of the log.
+  -- If the database file has the page count and the page contents that replaying the write-ahead
+  -- log would give, then replaying it changes no page.
   pub keeps_from : page_count page_size log db k ≡ length db / page_size
       → ((i : ℕ) → i < length db / page_size → page_after page_size log db (i + 1) k ≡ file_page page_size db (i + 1))
       → KeepsPages page_size log db k
@@ -42,8 +43,8 @@ module _ (page_size : ℕ) (log db : List ℕ) (k : ℕ) where
       let same = subst (λ m. page_after page_size log db m k ≡ file_page page_size db m) here (each (n - 1) (omega (arith, it.1, it.2))) in
       page_there page_size log db k n it.1 (omega (arith, it.2, count)) ∙ ap Some (same ∙ it.0))
 
-  -- If the database file has all pages of the write-ahead log, then replaying the log leaves each
-  -- page unchanged.
+  -- If replaying the write-ahead log leaves the pages of the database file unchanged, then each
+  -- page after the replay equals the page in the file.
   pub kept_page : KeepsPages page_size log db k → (n : ℕ) → 1 ≤ n → n ≤ page_count page_size log db k
       → page_after page_size log db n k ≡ file_page page_size db n
   kept_page keeps n low high =
@@ -71,7 +72,7 @@ unfolding pages_after
 keeps_none page_size log db n = refl
 
 -- If at least one frame of a write-ahead log is replayed, then the database's page count is the
--- commit size in the last replayed frame, `k` - 1.
+-- commit size in the last replayed frame.
 pub count_behind : (page_size : ℕ) (log db : List ℕ) (k : ℕ) → 0 < k
     → page_count page_size log db k ≡ commit_size (frame page_size log (k - 1))
 count_behind page_size log db zero some = absurd (omega arith)

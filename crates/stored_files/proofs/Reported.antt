@@ -5,7 +5,8 @@ use Rattle.std.proofs.Common.{◌≡◌, Result, Ok, Err, ap}
 pub not_both : {Z E : Type 0} (zone : Z) (fault : E) → Ok zone ≡ Err fault → ⊥
 not_both zone fault both = cc
 
--- If two results of creating a store are equal errors, then their faults are equal.
+-- If two errors are equal as results of one type, then these errors are also equal as results of
+-- another type.
 pub same_fault : {Z Y E : Type 0} (reported meant : E) → (let r : Result Z E = Err reported in r) ≡ Err meant
     → (let r : Result Y E = Err reported in r) ≡ Err meant
 same_fault {Y = Y} {E = E} reported meant same =

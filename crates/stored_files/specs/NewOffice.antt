@@ -9,8 +9,8 @@ use Rattle.store_tables.specs.NewFile.{Makes}
 use Rattle.store_tables.specs.Steps.{TransactsTo}
 use Rattle.office_store.specs.Database.{HoldsAlone}
 
--- States that the tables of a new store were created in one transaction. Right after this
--- transaction, the database had no records, and would have had none after a crash.
+-- States that the tables of a new store were created in one transaction. Directly after this
+-- transaction, the database has no records, and a crash at this point would also leave none.
 pub record IsMade {S : Type 0} (g : Ghosts S) (zone : List ℕ) (from : Held S) : Type 0 where
   pub made : Held S
   pub reported : Zone

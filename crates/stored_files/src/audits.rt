@@ -6,8 +6,9 @@ ghost use Rattle.sqlite.specs.Held.{state};
 ghost use Rattle.sqlite.specs.State.{HasCleanDisk};
 ghost use Rattle.store_tables.specs.Content.{Content};
 ghost use Rattle.store_tables.specs.declared.layouts.Layout.{Layout as TheLayout};
+ghost use Rattle.store_tables.specs.declared.layouts.Layout.TheVariants.{First, Second};
 ghost use Rattle.store_tables.specs.Layouts.{IsNamedAs};
-ghost use Rattle.stored_files.specs.Audits.{IsOfTables};
+ghost use Rattle.stored_files.specs.Audits.{IsOfTables, fault_of};
 ghost use Rattle.table_audit.specs.FileMark.{ReportsMark};
 ghost use Rattle.table_audit.specs.Looking.{HoldsRows, HoldsTables, OnlyLooks};
 ghost use Rattle.table_audit.specs.Polls.{ReportsTables};
@@ -53,11 +54,14 @@ pub enum AuditFault {
     Output,
 }
 
-/// Checks that a database has exactly the schema of `sunreg` in its present version, and that the
-/// connection has no open transaction. SQLite has then checked the keys of all rows.
+/// Returns Ok only if a database has exactly the schema of `sunreg` in its present version, and the
+/// connection has no open transaction. With this schema, SQLite itself has checked the keys of all
+/// rows.
 pub(crate) fn check_ours<S: Alter>(connection: &Connection<S>) -> Result<(), AuditFault>
     ensures foreign { ((layout : TheLayout) → ¬ IsNamedAs connection.now.schema layout)
         → result ≡ Err AuditFault.NotOurs }
+    ensures earlier { result ≡ Err AuditFault.Earlier → (IsNamedAs connection.now.schema First)
+        ⊎ (IsNamedAs connection.now.schema Second) }
     ensures idle { OnOk result (connection.now.in_transaction ≡ false) }
     ensures ours { OnOk result ((content : Content) → HoldsRows S.Store connection.now content
         → HoldsTables S.Store connection.now content) }
@@ -78,7 +82,7 @@ pub(crate) fn check_ours<S: Alter>(connection: &Connection<S>) -> Result<(), Aud
 
 /// Maps a fault of reading the rows of tables to an `AuditFault`.
 pub(crate) fn fault_of(fault: RowFault) -> AuditFault
-    ensures { (result ≡ AuditFault.Memory) ⊎ (result ≡ AuditFault.Store) }
+    ensures { result ≡ fault_of fault }
 {
     match fault {
         RowFault::Sql(Error::SqliteFailure(ErrorCode::OutOfMemory)) => AuditFault::Memory,
@@ -86,11 +90,14 @@ pub(crate) fn fault_of(fault: RowFault) -> AuditFault
     }
 }
 
-/// Checks the row of the table `meta`, which has the version of the file and its time zone. Writes
-/// nothing to the database.
+/// Returns Ok only if the table `meta` has exactly one row, with the present version of the file
+/// and a time zone. Writes nothing to the database.
 pub fn check_mark<S: Alter>(connection: &mut Connection<S>) -> Result<(), AuditFault>
     ensures foreign { ((layout : TheLayout) → ¬ IsNamedAs connection.old.schema layout)
         → result ≡ Err AuditFault.NotOurs }
+    ensures idle { OnOk result (connection.old.in_transaction ≡ false) }
+    ensures ours { OnOk result ((content : Content) → HoldsRows S.Store connection.old content
+        → HoldsTables S.Store connection.old content) }
     ensures looks { connection.old.in_transaction ≡ false
         → OnlyLooks S.Store connection.old connection.new }
     ensures marked { HasCleanDisk (state S.Store connection.new) → (content : Content)
@@ -116,6 +123,9 @@ pub fn audit_stored<S: Alter>(
 ) -> Result<Findings, AuditFault>
     ensures foreign { ((layout : TheLayout) → ¬ IsNamedAs connection.old.schema layout)
         → result ≡ Err AuditFault.NotOurs }
+    ensures idle { OnOk result (connection.old.in_transaction ≡ false) }
+    ensures ours { OnOk result ((content : Content) → HoldsRows S.Store connection.old content
+        → HoldsTables S.Store connection.old content) }
     ensures looks { connection.old.in_transaction ≡ false
         → OnlyLooks S.Store connection.old connection.new }
     ensures reports { HasCleanDisk (state S.Store connection.new) → (content : Content)
@@ -128,7 +138,7 @@ pub fn audit_stored<S: Alter>(
     }
 }
 
-/// Writes the result of an audit to `output`. Returns whether the audit found no errors.
+/// Writes the result of an audit to `output`. Returns whether the audit found no discrepancies.
 pub fn write_audit<W: Write>(
     alloc: Global,
     findings: &Findings,
@@ -149,8 +159,8 @@ pub fn write_audit<W: Write>(
 }
 
 /// Returns the meters in a database, to check that the next database file continues their counts.
-/// Returns `NoText` if a meter has an invalid value. If an audit found no errors, the invalid value
-/// is a name that is not valid text. Writes nothing to the database.
+/// If a meter has an invalid value, returns `NoText`: after an audit without discrepancies, such a
+/// value can only be a name that is not valid text. Writes nothing to the database.
 pub fn meters_stored<'a, S: Alter>(
     alloc: Global,
     connection: &mut Connection<S>,
@@ -176,8 +186,8 @@ pub fn meters_stored<'a, S: Alter>(
 }
 
 /// Checks whether the time zone and the meters of a database file continue those of the earlier
-/// files. Appends a line to `joining` for each difference. If memory runs out, lines may be
-/// missing, and the data on the earlier files is lost.
+/// files. Appends a line to `joining` for each difference. If memory runs out, some lines may be
+/// missing, and the data on the earlier files are lost.
 pub fn hold_to_earlier<'a>(
     alloc: Global,
     joining: &mut Joining<'a>,
@@ -207,7 +217,8 @@ pub fn hold_to_earlier<'a>(
     }
 }
 
-/// Writes the differences between successive database files. Returns whether there are none.
+/// Writes the differences between successive database files. Returns true if there are no
+/// differences.
 pub fn write_joins<W: Write>(
     alloc: Global,
     lines: &[Vec<u8>],

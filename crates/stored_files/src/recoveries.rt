@@ -95,8 +95,8 @@ fn write_open_meters(text: &mut Vec<u8>, meters: &[FiledMeter<'_>]) -> Result<()
     Ok(())
 }
 
-// Appends the report on recovered records to a text: the records' latest timestamp, and a line for
-// each open meter. Later entries of an open meter may be missing.
+// Appends the report on recovered records to a text: the latest timestamp of the records, and a
+// line for each open meter. Later entries of an open meter may be missing.
 fn append_recovered(
     text: &mut Vec<u8>,
     latest: u64,
@@ -110,8 +110,8 @@ fn append_recovered(
     write_open_meters(text, meters)
 }
 
-/// Writes the report on recovered records: the records' latest timestamp, and a line for each open
-/// meter. Later entries of an open meter may be missing.
+/// Writes the report on recovered records: the latest timestamp of the records, and a line for each
+/// open meter. Later entries of an open meter may be missing.
 pub fn write_recovered<W: Write>(
     alloc: Global,
     latest: u64,

@@ -1,5 +1,5 @@
-//! Makes and checks seals of databases. A seal is a text with digests of a database's records at
-//! one time. It shows later whether these records were changed.
+//! Creates and checks seals of databases. A seal is a text with digests of a database's records at
+//! one time. A later check shows whether these records were changed.
 ghost use Rattle.std.specs.Prelude.{◌≡◌, ◌≢◌, ◌↔◌, ◌⊎◌, false, Err, Some, IsTrue, IfOk, IfErr, OnOk};
 ghost use Rattle.std.specs.Io.KnownBytes.{Appends};
 ghost use Rattle.sqlite.specs.Held.{state};
@@ -61,9 +61,9 @@ pub fn write_seal<W: Write>(alloc: Global, seal: &Seal, output: &mut W) -> Resul
     }
 }
 
-/// Checks the metering records in a database against a seal (digests of earlier records), whose
-/// text is `text`. Returns the meters that don't match the seal, and whether the polls differ from
-/// the seal. Writes nothing to the database.
+/// Checks the metering records in a database against a seal (digests of earlier records), which is
+/// given as its text `text`. Returns the meters that don't match the seal, and whether the polls
+/// differ from the seal. Writes nothing to the database.
 pub fn check_stored_seal<S: Alter>(
     alloc: Global,
     connection: &mut Connection<S>,

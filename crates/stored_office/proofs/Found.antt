@@ -1,4 +1,4 @@
--- Lemmas on tasks over a store that has the records of given accepted events.
+-- Lemmas about tasks that run over a store with the records of given accepted events.
 use Rattle.std.proofs.Common.{◌≡◌, ℕ, List, sym, subst}
 use Rattle.sqlite.specs.Store.{Ghosts}
 use Rattle.office_books.specs.History.{History, facts_of}

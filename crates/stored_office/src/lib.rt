@@ -6,5 +6,5 @@ mod advice;
 mod runs;
 mod tasks;
 
-pub use advice::{may_be_ahead, say_lacks, say_remarks};
+pub use advice::{may_be_ahead, say_lacks, say_remarks, say_unaccepted};
 pub use tasks::{Done, Task, carry_out_stored, ending_of_done};

@@ -10,7 +10,8 @@ use Rattle.sun_chain.specs.declared.model.Model.{Model}
 use Rattle.sun_chain.specs.declared.fault.ChainFault.{ChainFault}
 use Rattle.sun_chain.specs.declared.fault.ChainFault.TheVariants.{NoMark, Unreadable, PastEnd, TooMany, Memory}
 
--- A list of consecutive SunSpec models remains consecutive with one more model at its end.
+-- If a valid model begins at the address after a list of consecutive SunSpec models, then the list
+-- with this model appended is also consecutive.
 pub follow_more : (word : Words) (from : ℕ) (models : List Model) (model : Model) → Follow word from models model.address → Stands word model →
     Follow word from (models ++ model ∷ []) (next_after model)
 follow_more word from [] model follow stands = (sym follow, stands, refl)
@@ -106,7 +107,8 @@ pub fails_after : (word : Words) (base : ℕ) (models : List Model) (count next 
     count ≡ length models → first_lack word count next ≡ Some fault → Fails word fault
 fails_after word base models count next fault lawful counted lack = fails_by word base models next fault lawful (rw counted at lack)
 
--- A list of fewer than 64 valid models remains valid with the valid model that follows it.
+-- If a valid model follows a valid list of fewer than 64 models, then the list with this model
+-- appended is also valid.
 pub lawful_more : (word : Words) (base : ℕ) (models : List Model) (next : ℕ) (model : Model) → IsLawful word base models next →
     model.address ≡ next → Stands word model → length models < 64 → IsLawful word base (models ++ model ∷ []) (next_after model)
 lawful_more word base models next model lawful at_next stands few = record {

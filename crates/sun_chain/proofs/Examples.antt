@@ -1,5 +1,5 @@
--- Examples of chains of SunSpec models at each limit: the last valid value and the first invalid
--- value.
+-- Examples of the limits of chains of SunSpec models: the last valid and the first invalid value of
+-- each limit.
 use Rattle.std.proofs.Common.{◌≡◌, ℕ, List, [], ◌∷◌, Some, None, refl}
 use Rattle.sun_chain.specs.Chain.{base_in}
 use Rattle.sun_chain.specs.Common.{device_address_in}
@@ -44,7 +44,7 @@ a_model_past_the_last_address = refl
 a_word_not_read : first_lack (λ address. None) 0 40002 ≡ Some (Unreadable 40002)
 a_word_not_read = refl
 
--- The base addresses with the `SunS` mark, and the base address at which the walk starts.
+-- The words of the `SunS` mark, with examples of the base address that a search for the mark finds.
 
 abbrev mark : List ℕ
 mark = 0x5375 ∷ 0x6E53 ∷ []
@@ -61,7 +61,8 @@ at_50000_before_zero = refl
 not_at_40001 : base_in (add_words (λ address. None) 40001 mark) ≡ None
 not_at_40001 = refl
 
--- A common model (model 1) of 65 or 66 registers has a device address, and one of 64 has none.
+-- A common model (model 1) with 65 or 66 registers has a device address. A common model with 64
+-- registers has no device address.
 
 abbrev model_of_length : ℕ → Model
 model_of_length length = record { address = 40002; id = 1; length = length }
@@ -77,7 +78,8 @@ of_65 = refl
 of_64 : device_address_in (everywhere 5) (model_of_length 64) ≡ None
 of_64 = refl
 
--- A common model (model 1) of 66 registers has a register at offset 67, and one of 65 has none.
+-- A common model (model 1) with 66 registers has a register at offset 67. A common model with 65
+-- registers has no such register.
 pad_of_66 : registers_in (everywhere 5) (model_of_length 66) 67 1 ≡ Some (5 ∷ [])
 unfolding words_in
 pad_of_66 = refl

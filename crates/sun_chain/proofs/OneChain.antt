@@ -43,7 +43,8 @@ same_models word from (first ∷ models) (other ∷ others) next other_next foll
     same_models word (next_after first) models others next other_next follow.2 other_too (omega arith) in
     (ap (λ (m : Model). m ∷ models) one ∙ ap (λ (ms : List Model). other ∷ ms) rest.0, rest.1)
 
--- No list of consecutive models from the same address is longer than a complete chain.
+-- If a list of consecutive models is followed by the ID 0xFFFF, then no list of consecutive models
+-- from the same address is longer.
 none_after_end : (word : Words) (from : ℕ) (models others : List Model) (end other_next : ℕ) →
     Follow word from models end → word end ≡ Some 0xFFFF → Follow word from others other_next → length others ≤ length models
 none_after_end word from models [] end other_next follow ends other_follow = omega arith

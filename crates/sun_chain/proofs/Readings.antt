@@ -24,7 +24,8 @@ nothing_after : (found : Option ℕ) → option_and_then (λ first. option_map (
 nothing_after None = refl
 nothing_after (Some word) = refl
 
--- A range of consecutive words consists of the first word and the words after it.
+-- The words from an address on, if all were read, are the word at this address, followed by the
+-- words from the next address on.
 words_in-suc : (word : Words) (start count : ℕ) → words_in word start (suc count) ≡ option_and_then (λ first. option_map (λ rest. first ∷ rest) (words_in word (start + 1) count)) (word start)
 unfolding words_in
 words_in-suc word start count = refl

@@ -17,7 +17,8 @@ pub get_or-splice_above : {X : Type 0} (s n : ℕ) (xs ys : List X) (k : ℕ) (d
     get_or (take s xs ++ (ys ++ drop n (drop s xs))) k d ≡ get_or xs k d
 get_or-splice_above s n xs ys k d fits size above = grind (arith, elements)
 
--- Padding a list with the default value changes no element.
+-- If copies of a default value are appended to a list, every lookup with that default value has the
+-- same result as before.
 pub get_or-padded : {X : Type 0} (n : ℕ) (xs : List X) (k : ℕ) (d : X) → get_or (xs ++ replicate n d) k d ≡ get_or xs k d
 get_or-padded n xs k d =
     ⊎_elim

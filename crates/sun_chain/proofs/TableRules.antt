@@ -31,8 +31,8 @@ in_order_from_less from later (point ∷ points) below stand =
     let first : later ≤ point.address = stand.0 in
     (omega (arith, first), stand.1)
 
--- Points of a model remain in order if one more point with a lower address is added before them, or
--- none.
+-- Points of a model remain in order when the point of the preceding row of the table (if it was
+-- read) is added before them.
 one_before : (model : Model) (from : ℕ) (row : Row) (scale : PointScale) (found : Option Value) (following : List Named) → from ≤ row.offset →
     StandInOrder (model.address + end_of_row row) following →
     StandInOrder (model.address + from)

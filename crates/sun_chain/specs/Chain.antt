@@ -9,7 +9,7 @@ use Rattle.sun_chain.specs.declared.model.Model.{Model}
 abbrev pub is_word : Option ℕ → ℕ → Bool
 is_word found value = unwrap_or (option_map (λ word. word == value) found) false
 
--- True if the words at the address are the mark `SunS`: `Su` and `nS`.
+-- True if the two words from the address on are the `SunS` mark: `Su` and `nS`.
 abbrev pub is_marked : Words → ℕ → Bool
 is_marked word address = is_word (word address) 0x5375 && is_word (word (address + 1)) 0x6E53
 
@@ -17,8 +17,8 @@ is_marked word address = is_word (word address) 0x5375 && is_word (word (address
 abbrev pub base_in : Words → Option ℕ
 base_in word = find (is_marked word) (40000 ∷ 50000 ∷ 0 ∷ [])
 
--- True if the words read from a device contain the given model: an ID other than 0xFFFF, followed
--- by the length. All of the model's registers have addresses below 65536.
+-- True if the words contain the given model at its address: its ID (not 0xFFFF), then its length.
+-- All of the model's registers must have addresses below 65536.
 pub record Stands (word : Words) (model : Model) : Type 0 where
   pub id : word model.address ≡ Some model.id
   pub no_end : model.id ≢ 0xFFFF
@@ -29,22 +29,22 @@ pub record Stands (word : Words) (model : Model) : Type 0 where
 abbrev pub next_after : Model → ℕ
 next_after model = model.address + 2 + model.length
 
--- True if the models are consecutive and the first model is at address `from`. `next` is the
--- address after the last model.
+-- True if the models lie one after another without gaps. The first model is at the first given
+-- address, and the second given address follows the last model.
 abbrev pub Follow : Words → ℕ → List Model → ℕ → Type 0
 Follow word from [] next = from ≡ next
 Follow word from (model ∷ models) next =
     (model.address ≡ from) × Stands word model × Follow word (next_after model) models next
 
--- The content of an address after `count` models: `found` is the model that begins there, or `None`
--- at the end of the chain.
+-- States which model begins at the address after `count` earlier models: the given model, or none
+-- (`None`) because the chain ends there.
 abbrev pub IsNext : Words → (count address : ℕ) → Option Model → Type 0
 IsNext word count address found =
     MatchOption found ((word address ≡ Some 0xFFFF) × (address ≤ 65535))
     (λ model. (model.address ≡ address) × Stands word model × (count < 64))
 
--- True if at most 64 consecutive models follow the `SunS` mark at `base`. `next` is the address
--- after the last model.
+-- True if there are at most 64 models, and they follow the `SunS` mark at `base` without gaps.
+-- `next` is the address after the last model.
 pub record IsLawful (word : Words) (base : ℕ) (models : List Model) (next : ℕ) : Type 0 where
   pub marked : base_in word ≡ Some base
   pub follow : Follow word (base + 2) models next
@@ -57,7 +57,7 @@ pub record IsChain (word : Words) (base : ℕ) (models : List Model) (end : ℕ)
   pub ends : word end ≡ Some 0xFFFF
   pub inside : end ≤ 65535
 
--- The words read from a device in which the chain of models was found.
+-- The words (read from a device) in which the chain of models was found.
 abbrev pub words_of : Chain → Words
 words_of chain = word_in chain.image.now
 

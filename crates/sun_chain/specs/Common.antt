@@ -50,7 +50,7 @@ abbrev pub text_in : Words → Model → ℕ → ℕ → List ℕ
 text_in word model offset count =
     words_or_none (option_map (value_of (Text count)) (registers_in word model offset count))
 
--- The number of an unsigned value, or `None` for other values.
+-- The number in an unsigned value, or `None` for a value of another kind.
 abbrev pub number_of : Value → Option ℕ
 number_of Absent = None
 number_of (Signed value) = None

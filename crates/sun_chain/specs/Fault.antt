@@ -1,4 +1,4 @@
--- Defines the numbers of the faults of a memory image (the words read from a device) and of a
+-- Defines the numeric codes of the faults of a memory image (the words read from a device) and of a
 -- chain.
 use Rattle.std.specs.Prelude.{ℕ}
 use Rattle.sun_chain.specs.declared.fault.ImageFault.{ImageFault}
@@ -6,12 +6,12 @@ use Rattle.sun_chain.specs.declared.fault.ImageFault.TheVariants as image
 use Rattle.sun_chain.specs.declared.fault.ChainFault.{ChainFault}
 use Rattle.sun_chain.specs.declared.fault.ChainFault.TheVariants as chain
 
--- The number of each fault of a write into a memory image (the words read from a device).
+-- The numeric code of each fault of a write into a memory image (the words read from a device).
 abbrev pub image_fault_number : ImageFault → ℕ
 image_fault_number image.PastEnd = 1
 image_fault_number image.Memory = 2
 
--- The number that the command `chain` prints for each fault.
+-- The numeric code that the command `chain` prints for each fault.
 abbrev pub chain_fault_number : ChainFault → ℕ
 chain_fault_number chain.NoMark = 1
 chain_fault_number (chain.Unreadable address) = 2

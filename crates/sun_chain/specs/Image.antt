@@ -16,13 +16,13 @@ word_in image address =
     else None
 
 -- The words of a memory image (the words read from a device) after new words were written at
--- consecutive addresses from `at`.
+-- consecutive addresses from the given address.
 abbrev pub add_words : Words → ℕ → List ℕ → Words
 add_words word address words at =
     if nat_le address at && nat_lt at (address + length words)
     then Some (slice_index words (at - address)) else word at
 
--- The `count` words from `address`, or `None` unless all of them were read.
+-- The given number of words from an address on, or `None` unless all of them were read.
 unfoldable pub words_in : Words → ℕ → ℕ → Option (List ℕ)
 words_in word address zero = Some []
 words_in word address (suc count) =

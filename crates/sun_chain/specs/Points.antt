@@ -1,4 +1,4 @@
--- Defines the points of a model in a device's memory image.
+-- Defines the points of a SunSpec model in the words that were read from a device.
 use Rattle.std.specs.Prelude.{ℕ, ℤ, pos, ◌+◌, nat_le, if◌then◌else◌, List, Some, None, option_map, unwrap_or, filter_map, codes}
 use Rattle.std.specs.declared.option.Option.{Option}
 use Rattle.sun_points.specs.PointType.{registers_of}
@@ -22,17 +22,18 @@ pub record Named : Type 0 where
   pub value : Value
   pub scale : PointScale
 
--- The scale of a point with the given exponent, or `Faulty` without an exponent.
+-- The scale of a point with the given exponent (power of ten), or `Faulty` if the exponent is
+-- `None`.
 abbrev pub scaled_or_faulty : Option ℤ → PointScale
 scaled_or_faulty None = Faulty
 scaled_or_faulty (Some exponent) = Scaled exponent
 
--- The scale of a point, by the register value of its scale point.
+-- The scale of a point, decoded from the register value of its scale point.
 abbrev pub scale_said : ℕ → PointScale
 scale_said word = scaled_or_faulty (scale_of word)
 
--- The scale of a point, by the register value of its scale point, or `Unscaled` if there is no
--- scale point.
+-- The scale of a point, decoded from the register value of its scale point, or `Unscaled` if the
+-- point has no scale point.
 abbrev pub point_scale : Option ℕ → PointScale
 point_scale None = Unscaled
 point_scale (Some word) = scale_said word
@@ -47,8 +48,8 @@ seen point = record {
   scale = point_scale point.scale_word;
 }
 
--- The `count` registers at an offset of a model, or `None` unless they lie inside the model and
--- were read.
+-- The given number of registers from an offset of a model on, or `None` unless they lie inside the
+-- model and were read.
 abbrev pub registers_in : Words → Model → ℕ → ℕ → Option (List ℕ)
 registers_in word model offset count =
     if nat_le (offset + count) (2 + model.length) then words_in word (model.address + offset) count
@@ -66,14 +67,14 @@ abbrev pub scale_word_in : Words → Model → Option ℕ → Option ℕ
 scale_word_in word model scale =
     option_map (λ offset. unwrap_or (register_in word model offset) 0) scale
 
--- The value of a table's point in a model, or `None` unless all registers of the point lie inside
+-- The value of a table's row (a point) in a model, or `None` unless all of its registers lie inside
 -- the model and were read.
 abbrev pub value_in : Words → Model → Row → Option Value
 value_in word model row =
     option_map (value_of row.ty) (registers_in word model row.offset (registers_of row.ty))
 
--- A table's point in a model, with its value and its scale. `None` unless all registers of the
--- point lie inside the model and were read.
+-- A table's row (a point) in a model, with its value and its scale. `None` unless all registers of
+-- the point lie inside the model and were read.
 abbrev pub point_in : Words → Model → Row → Option Named
 point_in word model row =
     option_map

@@ -12,7 +12,8 @@ use Rattle.sun_chain.specs.Points.{Named}
 abbrev pub end_of_row : Row → ℕ
 end_of_row row = row.offset + registers_of row.ty
 
--- True if the points are in order without overlap, the first at or after offset `from`.
+-- True if the points are in order of offset, do not overlap, and begin at or after the given
+-- offset.
 abbrev pub ascends_from : ℕ → List Row → Bool
 ascends_from from [] = true
 ascends_from from (row ∷ rows) = nat_le from row.offset && ascends_from (end_of_row row) rows
@@ -61,7 +62,8 @@ length_of_known id =
 abbrev pub TablesAreLawful : Type 0
 TablesAreLawful = (id : ℕ) → IsTrue (is_lawful_table (length_of_known id) (table_of id))
 
--- True if the points are in order of address without overlap, the first at or after address `from`.
+-- True if the points are in order of address, do not overlap, and begin at or after the given
+-- address.
 abbrev pub StandInOrder : ℕ → List Named → Type 0
 StandInOrder from [] = Unit {0}
 StandInOrder from (point ∷ points) =

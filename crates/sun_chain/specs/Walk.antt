@@ -28,14 +28,14 @@ id_lack word count address (Some id) =
     else if nat_lt 65535 (address + 1) then Some PastEnd
     else length_lack address (word (address + 1))
 
--- The first fault at an address after `count` models of a chain. `None` for a valid model or the
+-- The first fault at an address after the given number of models. `None` for a valid model or the
 -- end of the chain.
 abbrev pub first_lack : Words → ℕ → ℕ → Option ChainFault
 first_lack word count address =
     if nat_lt 65535 address then Some PastEnd else id_lack word count address (word address)
 
--- True if a valid list of models follows the `SunS` mark, no valid list is longer, and the fault is
--- at the address after its last model.
+-- True if the given fault is at the address after the longest valid list of models that follows the
+-- `SunS` mark.
 pub record Lacks (word : Words) (fault : ChainFault) : Type 0 where
   pub base : ℕ
   pub models : List Model

@@ -7,7 +7,7 @@ use std::error::Error;
 use std::fmt;
 use std::fmt::{Display, Formatter};
 
-/// The reason why a memory image refused a write of words.
+/// The reason why a memory image (the words read from a device) refused a write of words.
 #[derive(Clone, Copy, Debug, PartialEq, Eq)]
 pub enum ImageFault {
     /// The words to write would end past address 65535.
@@ -16,7 +16,7 @@ pub enum ImageFault {
 }
 
 impl ImageFault {
-    /// Returns the number of the fault, counted from 1.
+    /// Returns the numeric code of the fault. The codes begin at 1.
     pub fn number(self) -> u8
         ensures { result ≡ image_fault_number self }
     {
@@ -53,7 +53,8 @@ pub enum ChainFault {
 }
 
 impl ChainFault {
-    /// Returns the number that the command `chain` prints for the fault, counted from 1.
+    /// Returns the numeric code that the command `chain` prints for the fault. The codes begin at
+    /// 1.
     pub fn number(self) -> u8
         ensures { result ≡ chain_fault_number self }
     {

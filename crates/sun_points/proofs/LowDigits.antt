@@ -5,8 +5,8 @@ use Rattle.std.specs.Fmt.{digit_glyph}
 use Rattle.std.proofs.lemmas.Grind.{drop-set_at}
 use Rattle.sun_points.specs.Decimal.{low_digits}
 
--- The `k + 1` lowest digits of a number are the digit at position `k`, followed by the `k` lowest
--- digits.
+-- Let the last `k` digits of a list be the `k` lowest digits of a number. If the digit before them
+-- is set to the number's next digit, the last `k + 1` digits are the `k + 1` lowest digits.
 pub drop-set_digit : (base : ℕ) (digits : List ℕ) (count place n : ℕ) → place < count → length digits ≡ count →
     drop (count - place) digits ≡ low_digits base place n →
     drop (count - (place + 1)) (set digits (count - 1 - place) (digit_glyph false (n / base ^ place % base))) ≡ low_digits base (place + 1) n

@@ -7,8 +7,8 @@ use Rattle.std.specs.declared.option.Option.{Option}
 abbrev pub is_exponent : ℤ → Bool
 is_exponent z = int_le (negsuc 9) z && int_le z (pos 10)
 
--- The scale factor in a sunssf register, from -10 to 10. The value 0x8000 ("not implemented") has
--- the scale factor 0, and any other value `None`.
+-- The scale factor in a sunssf register. It is the register's value from -10 to 10, or 0 for the
+-- value 0x8000 ("not implemented"). Any other value gives `None`.
 abbrev pub scale_of : ℕ → Option ℤ
 scale_of word =
     if word == 0x8000 then Some (pos 0)

@@ -12,14 +12,15 @@ use Rattle.std.specs.declared.result.Result.{Result}
 abbrev pub GotPart : List ℕ → Option (List ℕ) → Option (List ℕ) → Type 0
 GotPart text old new = (part unwritten : List ℕ) × (text ≡ part ++ unwritten) × Appends old new part
 
--- True if the writer received the complete text on success, or a first part of the text on failure.
+-- States that the writer received the complete text if the result is `Ok`, and a first part of the
+-- text if the result is `Err`.
 abbrev pub GotText : {X E : Type 0} → Result X E → List ℕ → Option (List ℕ) → Option (List ℕ)
     → Type 0
 GotText (Ok done) text old new = Appends old new text
 GotText (Err error) text old new = GotPart text old new
 
--- The effects of writing a text. An empty text always succeeds, and interrupted writes are retried,
--- so the result is never `Interrupted`.
+-- The effects of writing a text. Writing an empty text always succeeds. Interrupted writes are
+-- retried, so the result is never `Interrupted`.
 pub record TakesText {X : Type 0} (result : Result X Error) (text : List ℕ)
     (old new : Option (List ℕ)) : Type 0 where
   pub bytes : GotText result text old new

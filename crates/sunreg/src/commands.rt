@@ -1,4 +1,7 @@
 //! Executes commands with the standard streams, files and sockets of the process.
+ghost use Rattle.std.specs.Process.{exit_status};
+ghost use Rattle.sunreg.specs.Commands.{EndsCommand};
+
 use crate::completions::completions;
 use crate::ended;
 use crate::entering::enter;
@@ -39,7 +42,9 @@ fn carry_out_over<D: OfficeFiles + NamedFiles>(
     rt: &HostRuntime,
     files: &D,
     line: &CommandLine<'_>,
-) -> ExitCode {
+) -> ExitCode
+    ensures { EndsCommand D.Store.Store (D.opens files.now) line.now (exit_status result) }
+{
     let ending = match line {
         CommandLine::Replay { zone } => replay_memory(rt, *zone),
         CommandLine::ReplayFile { db } => replay_file(rt, files, *db),
@@ -100,7 +105,10 @@ fn carry_out_over<D: OfficeFiles + NamedFiles>(
             files: paths,
             register,
             form,
-        } => report_files(rt, files, paths.as_slice(), *register, form),
+        } => {
+            let mut output = Buffered::new(io::writer(rt));
+            report_files(rt, files, paths.as_slice(), *register, form, &mut output)
+        }
         CommandLine::Run {
             dbs,
             listen,
@@ -141,10 +149,12 @@ fn carry_out_over<D: OfficeFiles + NamedFiles>(
         } => enter(rt, files, *db, *caller, *only_read),
         CommandLine::Backup { db, to } => backup(rt, *db, *to),
         CommandLine::Recover { db, to } => recover(rt, files, *db, *to),
-        CommandLine::Carry { from, to, until } => carry(rt, files, *from, *to, *until),
+        CommandLine::Carry { from, to, until } => {
+            carry(rt, files, *from, *to, *until, &mut io::writer(rt))
+        }
         CommandLine::Audit { dbs, seal } => match dbs.as_slice() {
-            [db] => audit(rt, files, *db, *seal),
-            several => audit_several(rt, files, several),
+            [db] => audit(rt, files, *db, *seal, &mut io::writer(rt)),
+            several => audit_several(rt, files, several, &mut io::writer(rt)),
         },
         CommandLine::Explain { what, number } => explain(rt, *what, *number),
         CommandLine::Completions => completions(rt),

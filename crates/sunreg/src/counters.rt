@@ -77,8 +77,8 @@ fn scale_of(source: ScaleSource) -> CounterScale {
     }
 }
 
-// Reads a counter of a device over a new link. The deadline of the link is twice the device's
-// timeout, because reading a counter can need two Modbus reads.
+// Reads a counter of a device over a new link (connection). The deadline of the link is twice the
+// device's timeout, because reading a counter can need two Modbus reads.
 fn shown_within<'a, L: Link>(
     rt: &HostRuntime,
     place: Device<'a>,

@@ -4,7 +4,7 @@ use crate::counters::shown_at;
 use crate::offices::{OWN_HOST, over_office};
 use crate::surroundings::Surroundings;
 use command_io::{Buffered, read_input};
-use file_commands::Escaped;
+use file_commands::{Escaped, OfficeFiles, Opening};
 use office_events::{Device, Register};
 use office_program::{MOST_FILE, NamedFiles, Shown};
 use std::alloc::{AllocError, Global};
@@ -12,7 +12,7 @@ use std::fmt::Display;
 use std::fs::{self, File};
 use std::io::{self, ErrorKind, Read, Write};
 use std::str::from_utf8;
-use stored_files::{Databases, Ending, Failure, Named, ending_of};
+use stored_files::{Ending, Failure, Named, ending_of};
 use stored_office::{Task, ending_of_done};
 
 // Reports why a file or a counter that a line of standard input names cannot be read.
@@ -87,8 +87,9 @@ impl NamedFiles for Surroundings<'_> {
 }
 
 /// Executes the commands in the lines of standard input on the database file at `path`. If
-/// `only_read` is true, only checks the lines. The idempotency keys of the lines contain `caller`.
-pub(crate) fn enter<'a, D: Databases + NamedFiles>(
+/// `only_read` is true, executes them on a temporary copy of the file, so that the output is the
+/// same and nothing is recorded. The idempotency keys of the lines contain `caller`.
+pub(crate) fn enter<'a, D: OfficeFiles + NamedFiles>(
     rt: &HostRuntime,
     files: &D,
     path: &'a str,
@@ -104,12 +105,13 @@ pub(crate) fn enter<'a, D: Databases + NamedFiles>(
         (Err(status), Ok(())) => ending_of(status),
         (Ok(text), Ok(())) => {
             let text = text.as_slice();
-            let task = if only_read {
-                Task::Check { caller, text }
+            let files = files.opened(if only_read {
+                Opening::Copied
             } else {
-                Task::Enter { caller, text }
-            };
-            ending_of_done(over_office(rt, files, path, task), OWN_HOST, 0)
+                Opening::InPlace
+            });
+            let done = over_office(rt, &files, path, Task::Enter { caller, text });
+            ending_of_done(done, OWN_HOST, 0)
         }
     }
 }

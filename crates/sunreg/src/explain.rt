@@ -1,13 +1,13 @@
-//! Prints the meaning of a number that the program printed.
+//! Prints the meaning of a numeric code that the program printed.
 use command_io::Buffered;
 use printed_numbers::{Kind, Meaning, kinds, meaning_of};
 use std::io::{self, Write};
 use stored_files::{Ending, Failure};
 
-/// An upper limit for the numbers that the program prints after a word such as `held`.
+/// An upper bound of the numeric codes that the program prints after a word such as `held`.
 const MOST_NUMBER: u32 = 999;
 
-// Returns a phrase that says what the numbers of a kind belong to. Several kinds of numbers are
+// Returns a phrase that says what the numeric codes of a kind belong to. Codes of several kinds are
 // printed after the same word, such as `fault`.
 fn owner(kind: Kind) -> &'static str {
     match kind {
@@ -23,8 +23,8 @@ fn owner(kind: Kind) -> &'static str {
     }
 }
 
-// Returns the meaning of a number of the kind `kind`. Returns `None` if the program never prints
-// numbers of this kind after the word `what`.
+// Returns the meaning of a numeric code of the kind `kind`. Returns `None` if the program never
+// prints codes of this kind after the word `what`, or if the kind has no such code.
 fn meaning_at(kind: Kind, what: &str, number: u32) -> Option<&'static Meaning> {
     if kind.word() == what {
         meaning_of(kind, number)
@@ -51,8 +51,8 @@ fn write_meaning<W: Write>(meaning: &Meaning, output: &mut W) -> io::Result<()> 
     write!(output, "What to do: {remedy}.\n")
 }
 
-// Writes each meaning of a number after the word `what`, with an empty line between two meanings.
-// Returns the number of meanings.
+// Writes each meaning that the numeric code `number` has after the word `what`, with an empty line
+// between two meanings. Returns how many meanings it wrote.
 fn write_meanings<W: Write>(what: &str, number: u32, output: &mut W) -> io::Result<u32> {
     let mut count: u32 = 0;
     for kind in kinds() {
@@ -77,7 +77,7 @@ fn has_number(what: &str, number: u32) -> bool {
         .any(|kind| meaning_at(*kind, what, number).is_some())
 }
 
-// Writes all numbers that the program can print after the word `what`.
+// Writes all numeric codes that the program can print after the word `what`.
 fn write_numbers<W: Write>(what: &str, output: &mut W) -> io::Result<()> {
     for number in 0..=MOST_NUMBER {
         if has_number(what, number) {
@@ -87,7 +87,8 @@ fn write_numbers<W: Write>(what: &str, output: &mut W) -> io::Result<()> {
     Ok(())
 }
 
-// Writes which argument of the command `explain` is wrong, and which words or numbers are allowed.
+// Writes which argument of the command `explain` is wrong, and which words or numeric codes are
+// allowed.
 fn write_fault<W: Write>(what: &str, number: &str, output: &mut W) -> io::Result<()> {
     if is_word(what) {
         write!(
@@ -118,8 +119,8 @@ fn wrong(rt: &HostRuntime, what: &str, number: &str) -> Ending<'static> {
     }
 }
 
-/// Prints the meaning of a number that the program printed after the word `what`. If no such number
-/// exists, returns an error text that lists the valid ones.
+/// Prints the meaning of a numeric code that the program printed after the word `what`. If no such
+/// code exists, returns an error text that lists the valid codes.
 pub(crate) fn explain(rt: &HostRuntime, what: &str, number: &str) -> Ending<'static> {
     let Ok(value) = number.parse::<u32>() else {
         return wrong(rt, what, number);

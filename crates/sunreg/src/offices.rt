@@ -14,7 +14,9 @@ use sqlite::types::ValueRef;
 use sqlite::{Alter, Connection};
 use std::io::{self, ErrorKind, Printer, Write};
 use stored_files::{Databases, Ending, Failure, latest_stored, log_of};
-use stored_office::{Done, Task, carry_out_stored, ending_of_done, may_be_ahead, say_remarks};
+use stored_office::{
+    Done, Task, carry_out_stored, ending_of_done, may_be_ahead, say_remarks, say_unaccepted,
+};
 
 /// The host on which the program serves HTTP.
 pub(crate) const OWN_HOST: &str = "127.0.0.1";
@@ -70,8 +72,14 @@ fn over_connection<'a, D: Databases + NamedFiles, C: Clock>(
             if may_be_ahead(done) && is_said_ahead(rt, files, path, clock) {
                 return Ok(done);
             }
-            if let (Task::Round { device, .. }, Done::Polled(end)) = (task, done) {
-                say_remarks(rt.alloc(), device, end, output.kept(), &mut errors);
+            match (task, done) {
+                (Task::Round { device, .. }, Done::Polled(end)) => {
+                    say_remarks(rt.alloc(), device, end, output.kept(), &mut errors);
+                }
+                (Task::Enter { text, .. }, Done::Entered(_)) => {
+                    say_unaccepted(text, output.kept(), &mut Escaped::new(errors));
+                }
+                _ => {}
             }
             Ok(done)
         }
@@ -80,7 +88,7 @@ fn over_connection<'a, D: Databases + NamedFiles, C: Clock>(
 }
 
 // If the latest record in a database is later than the clock, reports both times and a remedy.
-// Returns whether the record is later.
+// Returns whether the latest record is later than the clock.
 fn is_said_ahead<D: Databases, C: Clock>(
     rt: &HostRuntime,
     files: &D,
@@ -97,8 +105,8 @@ fn is_said_ahead<D: Databases, C: Clock>(
 }
 
 // Returns the writer for a task's output. A polling round of one device and the command `run` write
-// line by line, and other tasks write in chunks. The output of a round is also stored, because its
-// error numbers are explained afterwards.
+// line by line, and other tasks write in chunks. The output of a round is also stored, because the
+// numeric codes in this output are explained afterwards.
 fn output_of<'r>(
     rt: &'r HostRuntime,
     task: Task<'_>,
@@ -107,10 +115,10 @@ fn output_of<'r>(
         Task::Report { .. }
         | Task::ReportRange { .. }
         | Task::Statement { .. }
-        | Task::Serve { .. }
-        | Task::Enter { .. }
-        | Task::Check { .. } => Ok(CommandOutput::in_pieces(io::writer(rt))),
-        Task::Round { .. } => CommandOutput::keeping(rt.alloc(), io::writer(rt)),
+        | Task::Serve { .. } => Ok(CommandOutput::in_pieces(io::writer(rt))),
+        Task::Enter { .. } | Task::Round { .. } => {
+            CommandOutput::keeping(rt.alloc(), io::writer(rt))
+        }
         Task::Run { .. } => CommandOutput::by_lines(rt.alloc(), io::writer(rt)),
     }
 }

@@ -40,8 +40,8 @@ fn split_path(path: &str) -> (&str, &str) {
     }
 }
 
-// Returns the latest period that has a file beside `file`, the file that the arguments name.
-// Ignores names that are not UTF-8.
+// Returns the latest period that has a file in the folder of `file`, the file that the arguments
+// name. Ignores names that are not UTF-8.
 fn period_beside(rt: &HostRuntime, file: &str, period: Period) -> io::Result<ActivePeriod> {
     let (folder, name) = split_path(file);
     let mut led = ActivePeriod::none();

@@ -30,13 +30,13 @@ use std::time::{Duration, Instant};
 use stored_files::{CopyFault, Databases, Ending, Failure, FileFault, Named, read_zone_text};
 use stored_office::ending_of_done;
 
-/// The maximum number of attempts to open a file that another process has open. `LOOKS` is the
-/// maximum number of checks for a file that another process may be creating. `PAUSE` is the time
-/// between two attempts, in milliseconds.
+/// The maximum number of attempts to open a file that another process has open.
 const TRIES: u32 = 100;
 
+/// The maximum number of checks for a file that another process may be creating.
 const LOOKS: u32 = 30;
 
+/// The time between two attempts to open a file, or between two checks, in milliseconds.
 const PAUSE: u64 = 100;
 
 const NOT_CARRIED: &str = "not carried: it stays in use, and sunreg tries again at the next hour";
@@ -125,8 +125,8 @@ pub(crate) struct PeriodWords<'r> {
     pub(crate) earlier: Option<u32>,
 }
 
-// The options of the command `run --carry` that are the same for all its periods. They are the last
-// file in the arguments, the period, and the earlier files whose energy is also reported.
+// The options of the command `run --carry` that are the same for all its periods. They include the
+// last file in the arguments, the period, and the earlier files whose energy is also reported.
 #[derive(Clone, Copy)]
 struct Asked<'r> {
     rt: &'r HostRuntime,

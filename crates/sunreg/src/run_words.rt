@@ -14,8 +14,8 @@ pub(crate) const STANDARD_ERROR: i32 = 2;
 /// The number of bytes in a megabyte.
 const MEGABYTE: u64 = 1_000_000;
 
-/// Returns the settings of the command `run`. It serves HTTP on the port `listen`, only to clients
-/// on this machine.
+/// Returns the settings of the command `run`. The command serves HTTP on the port `listen`, only to
+/// clients on this machine.
 pub(crate) fn settings_of<'n>(
     listen: u16,
     every: u32,

@@ -127,7 +127,7 @@ fn wrong_name<'a>(rt: &HostRuntime, device: &str) -> Ending<'a> {
     }
 }
 
-// Scans a device over a new link, until a deadline.
+// Scans a device over a new link (connection), until a deadline.
 fn scan_within<'a, L: Link>(
     rt: &HostRuntime,
     target: Target<'a>,

@@ -36,6 +36,8 @@ impl OfficeFiles for Surroundings<'_> {
 impl Databases for Surroundings<'_> {
     type Store = FileStore<FileFrom<Unknown>>;
 
+    ghost opens = { λ files path connection. Unit {0} };
+
     fn make(&self, path: &str) -> Result<Connection<FileStore<FileFrom<Unknown>>>, FileFault> {
         self.files.make(path)
     }

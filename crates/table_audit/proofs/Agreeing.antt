@@ -1,5 +1,5 @@
--- Lemmas that a meter's rows follow from a history that the rules accept if and only if they agree
--- with a check of all entries.
+-- Lemmas: a meter's rows follow from a history that the rules accept if and only if they agree with
+-- the result of checking all entries.
 use Rattle.std.proofs.Common.{◌≡◌, ℕ, ◌+◌, ◌-◌, ◌<◌, List, [], ◌∷◌, ◌++◌, reverse, take, drop, length, get_or, Option, Some, None, MatchOption, Err, refl, sym, ap, subst, ◌∙◌, arith}
 use Rattle.std.proofs.lemmas.List.{reverse-append, take_all, take-append-drop, append_cancel_right}
 use Rattle.energy_core.specs.declared.entries.Last.{Last}
@@ -23,8 +23,8 @@ pub gone_more : (meter : Installed) (rows : List TableRow) (i : ℕ) (d : TableR
     → HasGone meter (get_or rows i d ∷ reverse (take i rows)) [] new → HasGone meter (reverse (take (i + 1) rows)) [] new
 gone_more meter rows i d new lt gone = subst (λ (reported : List TableRow). HasGone meter reported [] new) (sym (reported_more rows i d lt)) gone
 
--- If index `i` is in a list of rows, then the reversed list is the rows after `i`, row `i`, and the
--- rows before `i`.
+-- Let `i` be the index of a row in a list. The reversed list is the reversed later rows, row `i`
+-- and the reversed earlier rows.
 split_at : (rows : List TableRow) (i : ℕ) (d : TableRow) → i < length rows
     → reverse rows ≡ reverse (drop (i + 1) rows) ++ get_or rows i d ∷ reverse (take i rows)
 split_at rows i d lt =
@@ -44,8 +44,7 @@ pub refused_so : RefusedIsNotFine → (meter : Installed) (rows : List TableRow)
 refused_so law meter rows i d old new o fault may lt gone is goes =
     refused_there law meter rows i d old fault may lt gone (subst (GoesOver meter old (get_or rows i d) new) is goes)
 
--- Taking one element less than a list's length from the list without its first row takes all of its
--- rows.
+-- After its first row is removed, a list has as many rows as the list's original length minus 1.
 pub all_later : (rows : List TableRow) → take (length rows - 1) (drop 1 rows) ≡ drop 1 rows
 all_later [] = refl
 all_later (row ∷ rows) = take_all (length (row ∷ rows) - 1) rows (omega (arith))
@@ -79,8 +78,8 @@ opening_last entries opening later last first is =
     ap (λ (rs : List TableRow). reverse rs) first ∙ reverse-append (opening ∷ []) later
     ∙ ap (λ (r : TableRow). reverse later ++ r ∷ []) is
 
--- The meter's rows follow from its entries without a difference, and its first entry is the
--- opening, which installs the meter.
+-- States that the meter's rows follow from its entries without a discrepancy. The entries are the
+-- meter's opening (the first entry) and the entries `later`.
 record HasOpened (range : ℕ) (row : InstallationRow) (voids : List ℕ) (entries : List TableRow) (shares : List Share) (meter : Installed)
     (later : List TableRow) : Type 0 where
   fine : AreFine meter (tables_from entries shares row)
@@ -113,8 +112,8 @@ pub no_entry : (range : ℕ) (row : InstallationRow) (voids : List ℕ) (entries
 no_entry range row voids entries shares none lawful =
     let both : [] ≡ lawful.opening ∷ lawful.later = sym none ∙ lawful.first in absurd (cc)
 
--- If no history of a meter that the rules accept gives the entries after its first entry, then the
--- meter's rows are not accepted either.
+-- Suppose that no history that the rules accept has a meter's entries after the opening (the first
+-- entry). Then the rules do not accept the meter's rows either.
 pub not_reported : (range : ℕ) (row : InstallationRow) (voids : List ℕ) (entries : List TableRow) (shares : List Share) (meter : Installed)
     (opening : TableRow) (later : List TableRow) → entries ≡ opening ∷ later → IsOpenedBy range row.ceiling opening meter
     → (AreReported meter (reverse later) → ⊥) → IsLawful range row voids entries shares → ⊥

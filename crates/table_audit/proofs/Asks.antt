@@ -1,4 +1,5 @@
--- Lemmas on the result rows of the audit's SQL queries, for rows with any column values.
+-- Lemmas on the result rows of the audit's SQL queries. The columns of the queried tables may have
+-- any values.
 use Rattle.std.proofs.Common.{◌≡◌, ℕ, true, ◌&&◌, List, [], ◌∷◌, IsPermutation, refl, sym, ap, subst, ◌∙◌, map-id}
 use Rattle.std.specs.Ordering.{is_gt}
 use Rattle.std.proofs.lemmas.List.Sorted.{IsPermutation-refl}

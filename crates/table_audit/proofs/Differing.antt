@@ -1,5 +1,5 @@
--- Lemmas on the differences between the polls in the tables and valid polls. Adding the differences
--- of each row gives all differences, and valid polls have none.
+-- Lemmas on the discrepancies that an audit reports for polls. The discrepancies of all rows are
+-- those of each row, one after another, and valid polls have none.
 use Rattle.std.proofs.Common.{◌≡◌, ◌+◌, ◌-◌, ◌<◌, ◌≤◌, ◌==◌, ℕ, zero, suc, Bool, true, false, nat_lt, nat_le, ◌&&◌, ◌||◌, if◌then◌else◌, List, [], ◌∷◌, ◌++◌, drop, length, get_or, Option, Some, Result, Ok, Err, unwrap_or, refl, sym, ap, subst, ◌∙◌, append_assoc, arith, add-one}
 use Rattle.std.specs.List.{list_any, list_all}
 use Rattle.std.proofs.Math.Seq.{drop-cons}
@@ -22,8 +22,8 @@ use Rattle.table_audit.specs.Polls.{are_numbered, is_begun, has_begun, IsFineRun
 use Rattle.table_audit.specs.Reading.{all_in}
 use Rattle.table_audit.proofs.Named.{append_none, both_none}
 
--- Lemmas on adding the differences of one more row of polls or outcomes to the differences of the
--- earlier rows.
+-- Lemmas: the discrepancies in several rows of polls or outcomes are those of the earlier rows,
+-- followed by those of the later rows.
 
 pub each_more : (differs : Row → List Difference) (rows : List Row) (i : ℕ) (row : Row) (found next all : List Difference) → i < length rows → row ≡ get_or rows i row
     → found ++ each_of differs (drop i rows) ≡ all → next ≡ found ++ differs row → next ++ each_of differs (drop (i + 1) rows) ≡ all
@@ -140,8 +140,8 @@ gap_closed next below none = not_lt next below (if_none (nat_lt next below) (NoP
 closed_gap : (next below : ℕ) → below ≤ next → gap next below ≡ []
 closed_gap next below h = ap (λ (b : Bool). let ds : List Difference = if b then NoPolls next (below - 1) ∷ [] else [] in ds) (lt_not next below h)
 
--- True if the poll number `n` is the expected number `next` and at most `last`, so that it adds no
--- difference.
+-- True if the poll number `n` is the expected number `next` and at most `last`, so that the audit
+-- reports no discrepancy for it.
 record IsNext (next last n : ℕ) : Type 0 where
   is : n ≡ next
   inside : n ≤ last
@@ -245,7 +245,7 @@ module _ (poll_rows : List Row) (polls : List PollRow) (polls_read : all_in poll
       (same_begun one.0 poll_rows polls polls_read ∙ both.0)
       ∙ none_early rows two.0 two.1 both.1
 
--- Lemmas on the differences of one run of polls (consecutive poll numbers), and of consecutive
+-- Lemmas on the discrepancies in one run of polls (consecutive poll numbers), and in consecutive
 -- runs.
 
 none_is_fine : (run last : ℕ) (rows : RunRows) → differences_of_run run last rows ≡ [] → IsFineRun run last rows

@@ -1,4 +1,4 @@
--- Lemmas that a meter's rows have no difference if and only if the values read from them follow
+-- Lemmas that a meter's rows have no discrepancy if and only if the values read from them follow
 -- from a history that the rules accept.
 use Rattle.std.proofs.Common.{◌≡◌, ◌↔◌, ℕ, Bool, false, List, [], ◌∷◌, Option, Some, None, Result, Ok, Err, Vec, IfOk, IsTrue, sym, ap, subst, ◌∙◌}
 use Rattle.interval_core.specs.declared.shares.Share.{Share}
@@ -13,11 +13,12 @@ use Rattle.table_audit.specs.Reading.{entry_in, place_in, share_in, range_in, al
 use Rattle.table_audit.specs.Lawful.{IsLawful}
 use Rattle.table_audit.specs.Fine.{IsFine}
 
--- If a property is impossible, then the Boolean false decides this property.
+-- If a property never holds, then the Boolean `false` is the correct report of whether it holds.
 pub never : (P : Type 0) → (P → ⊥) → IsTrue false ↔ P
 never P none = (λ f. absurd (let e : false ≡ Rattle.std.proofs.Common.true = f in cc), λ h. absurd (none h))
 
--- If a Boolean decides a property, then it also decides an equivalent property.
+-- If a Boolean is true exactly when a property holds, then it is also true exactly when an
+-- equivalent property holds.
 pub reported_by : {E P Q : Type 0} (r : Result Bool E) → IfOk r (λ b. IsTrue b ↔ P) → ((b : Bool) → IsTrue b ↔ P → IsTrue b ↔ Q)
     → IfOk r (λ b. IsTrue b ↔ Q)
 reported_by (Ok b) h both = both b h
@@ -26,7 +27,7 @@ reported_by (Err e) h both = tt
 pub reported_too : {E P Q : Type 0} (r : Result Bool E) → IfOk r (λ b. IsTrue b ↔ P) → (P → Q) → (Q → P) → IfOk r (λ b. IsTrue b ↔ Q)
 reported_too r h to from = reported_by r h (λ b same. (λ is. to (same.0 is), λ q. same.1 (from q)))
 
--- If rows were parsed without an error, then the parsed values are those of all given rows.
+-- If parsing a list of rows succeeded, then the result has the values of all given rows.
 pub what_was_read : {X Z : Type 0} (read : Row → Result X RowFault) (given rows : List Row) (o : Option (Vec X Z)) (found : Vec X Z)
     → given ≡ rows → o ≡ Some found → AreRead read given o → all_in read rows ≡ Ok found.items
 what_was_read read given rows o found same is h = ap (all_in read) (sym same) ∙ subst (AreRead read given) is h
@@ -79,8 +80,8 @@ module _ (row : InstallationRow) (rows : MeterRows) where
         (subst (λ n. IsLawful n row fine.voids fine.entries fine.shares) same_range fine.lawful)))),
   )
 
-  -- If a Boolean decides whether the values read from a meter's rows follow the rules, then it also
-  -- decides whether the rows do. The values may be copies.
+  -- If a Boolean reports correctly whether the values parsed from a meter's rows follow the rules,
+  -- then also whether the rows do. The check may use copies of the values.
   pub fine_found : (range : ℕ) (voids named vs : List ℕ) (entries es : List TableRow) (shares ss : List Share) (b : Bool)
       → named ≡ voids → vs ≡ voids → es ≡ entries → ss ≡ shares
       → all_in range_in rows.ranges.items ≡ Ok (range ∷ []) → all_in place_in rows.voids.items ≡ Ok voids

@@ -1,5 +1,5 @@
--- A lemma on databases with the program's schema: the rows of the database are those of the store's
--- tables.
+-- A lemma on databases with the program's schema: if their tables have certain rows, then the
+-- tables of the store's model have the same rows.
 use Rattle.std.proofs.Common.{◌≡◌, IsTrue, subst}
 use Rattle.sqlite.specs.Store.{Ghosts}
 use Rattle.sqlite.specs.Held.{Held, state}

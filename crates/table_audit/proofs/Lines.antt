@@ -1,4 +1,5 @@
--- The lemma that appending an audit's printed lines one by one gives the text of all lines.
+-- The lemma that appending the printed lines of an audit one by one gives the complete printed
+-- text.
 use Rattle.std.proofs.Common.{◌≡◌, ◌+◌, ◌<◌, ◌≤◌, ℕ, suc, List, drop, length, get_or, sym, ap, ◌∙◌, add-one}
 use Rattle.std.proofs.Math.Seq.{drop-cons}
 use Rattle.std.proofs.Math.ListN.{drop_of_length-le}

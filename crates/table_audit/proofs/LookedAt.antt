@@ -1,4 +1,4 @@
--- Lemmas on the findings and counts after the audit of the first rows of `installations`.
+-- Lemmas on the audit of `installations`, row by row: its findings and counts after the first rows.
 use Rattle.std.proofs.Common.{◌≡◌, ◌+◌, ◌<◌, ◌≤◌, ℕ, suc, List, [], ◌∷◌, ◌++◌, take, length, get_or, refl, sym, ap, subst, ◌∙◌, arith}
 use Rattle.std.specs.List.{AllByRecursion}
 use Rattle.std.proofs.lemmas.List.{take_all, take_more, length-map, length-take-le, map-append}
@@ -38,7 +38,7 @@ counted_more : (counts : Counts) (xs : List LookedAt) (x : LookedAt) → counted
 counted_more counts [] x = refl
 counted_more counts (y ∷ ys) x = counted_more (counted y.rows counts) ys x
 
--- Lemmas on the findings after the audit of all rows of `installations`.
+-- Lemmas on the findings of an audit before the first and after the last row of `installations`.
 
 pub none_few : (found : Findings) → found.first.items ≡ [] → length found.first.items ≤ MOST
 none_few found none = let long : length found.first.items ≡ 0 = ap length none in omega (arith, long)

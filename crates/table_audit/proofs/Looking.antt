@@ -33,7 +33,8 @@ module _ {S : Type 0} (g : Ghosts S) where
 
 -- Lemmas on a query after the check that the database is open.
 
--- After the check that the database is open succeeds, queries see exactly the committed rows.
+-- The effect of a successful check that the database is open: later queries see exactly the
+-- committed rows.
 pub record Touched {S : Type 0} (g : Ghosts S) (old mid : Held S) : Type 0 where
   pub mode : mid.in_transaction ≡ false
   pub opened : HasCleanDisk (state g mid) → IsTrue (state g mid).is_open × ((state g mid).now ≡ (state g mid).committed)
@@ -54,7 +55,8 @@ module _ {S : Type 0} (g : Ghosts S) (old mid : Held S) where
     goes = λ content holds clean. went_on (state g old) (state g mid) (λ _. ⊥) clean survives;
   }
 
-  -- If the check that the database is open fails, then the query fails with the error of the check.
+  -- Suppose that the check that the database is open fails, and that the function returns this
+  -- error instead of running a query. Then the function satisfies the contract of a query.
   pub not_touched : {A : Type 0} (e : Error) (r : Result A RowFault) (Says : Content → A → Type 0)
       → mid.in_transaction ≡ false → (HasCleanDisk (state g mid) → KeepsCommit (state g old) (state g mid)) → Survives (state g old) (state g mid) (λ _. ⊥)
       → (HasCleanDisk (state g mid) → IsStoreError (state g old) (state g mid) e) → IsErrAnd r (λ d. d ≡ Sql e) → Finds g old mid r Says
@@ -95,8 +97,8 @@ module _ {S : Type 0} (g : Ghosts S) (old mid : Held S) where
                 goes_then (state g old) (state g mid) (state g new) (first.goes content holds (asks.clean clean)) (went_on (state g mid) (state g new) (λ _. ⊥) clean (asks.survives content s));
           }
 
-      -- If the query succeeds after the check that the database is open, its result is true of the
-      -- committed tables.
+      -- If the check that the database is open succeeds, and a query then succeeds, the query's
+      -- result is true of the committed tables.
       pub asked : {A : Type 0} (a : A) (Says : Content → A → Type 0)
           → (HasCleanDisk (state g new) → (content : Content) → AreTables (state g mid).now content → Says content a)
           → Finds g old new (Ok a) Says
@@ -106,8 +108,8 @@ module _ {S : Type 0} (g : Ghosts S) (old mid : Held S) where
         looks = looks_asked;
       }
 
-      -- If the query after the check that the database is open fails, its error is one of the
-      -- allowed store errors.
+      -- If the check that the database is open succeeds, and a query then fails, the query's error
+      -- is one of the allowed store errors.
       pub not_asked : {A : Type 0} (e : Error) (r : Result A RowFault) (Says : Content → A → Type 0)
           → (HasCleanDisk (state g new) → (content : Content) → AreTables (state g mid).now content → IsStoreError (state g mid) (state g new) e)
           → IsErrAnd r (λ d. d ≡ Sql e) → Finds g old new r Says
@@ -127,7 +129,7 @@ both_ok : {B : Type 0} {P Q : B → Type 0} (r : Result B RowFault) → ((b : B)
 both_ok (Ok b) f h = f b h
 both_ok (Err e) f h = tt
 
--- After two consecutive queries, both results are true of the same committed tables.
+-- If two consecutive queries succeed, both results are true of the same committed tables.
 pub finds_then : {S A B : Type 0} (g : Ghosts S) (old mid new : Held S) (a : A) (r : Result B RowFault) (P : Content → A → Type 0) (Q R : Content → B → Type 0)
     → Finds g old mid (Ok a) P → Finds g mid new r Q → ((content : Content) (b : B) → P content a → Q content b → R content b) → Finds g old new r R
 finds_then g old mid new a r P Q R one two reports = record {
@@ -140,7 +142,8 @@ finds_then g old mid new a r P Q R one two reports = record {
   looks = looks_then g old mid new one.looks two.looks;
 }
 
--- If the first of two queries fails, then both queries together fail with the error of the first.
+-- If the first of two queries fails, and the function that runs both returns its error, then the
+-- function satisfies the contract of a query.
 pub passed_on : {S A B : Type 0} (g : Ghosts S) (old new : Held S) (e : RowFault) (r : Result B RowFault) (P : Content → A → Type 0) (Q : Content → B → Type 0)
     → Finds g old new (Err e) P → IsErrAnd r (λ d. d ≡ e) → Finds g old new r Q
 passed_on g old new e (Ok b) P Q one fails = absurd fails
@@ -150,7 +153,9 @@ passed_on g old new e (Err d) P Q one fails = record {
   looks = one.looks;
 }
 
--- If a query's result has a property, it also has every weaker property.
+-- Suppose that the statement Q about a value follows from the statement P about a query's result.
+-- If the query satisfies its contract with P, then returning this value satisfies the contract with
+-- Q.
 pub made : {S A B : Type 0} (g : Ghosts S) (old new : Held S) (a : A) (b : B) (P : Content → A → Type 0) (Q : Content → B → Type 0)
     → Finds g old new (Ok a) P → ((content : Content) → P content a → Q content b) → Finds g old new (Ok b) Q
 made g old new a b P Q one reports = record {
@@ -159,7 +164,7 @@ made g old new a b P Q one reports = record {
   looks = one.looks;
 }
 
--- Lemmas on calls that run no query, and on calls that run out of memory.
+-- Lemmas on calls that run no query, and on calls during which memory runs out.
 
 module _ {S : Type 0} (g : Ghosts S) (held : Held S) where
   not_looked : OnlyLooks g held held
@@ -186,8 +191,8 @@ module _ {S : Type 0} (g : Ghosts S) (held : Held S) where
     looks = not_looked;
   }
 
--- If memory runs out after a successful query, then the contract of the query allows the resulting
--- error.
+-- If memory runs out after a successful query, then returning the out-of-memory error satisfies the
+-- contract of a query.
 pub cut_off : {S A B : Type 0} (g : Ghosts S) (old new : Held S) (a : A) (P : Content → A → Type 0) (Q : Content → B → Type 0)
     → Finds g old new (Ok a) P → Finds g old new (Err (Sql want_of_memory)) Q
 cut_off g old new a P Q one = record {

@@ -1,4 +1,4 @@
--- Lemmas on adding the differences that an audit found for one meter to the findings about the
+-- Lemmas on adding the discrepancies that an audit found for one meter to the findings about the
 -- earlier meters.
 use Rattle.std.proofs.Common.{◌≡◌, ◌↔◌, ◌+◌, ◌-◌, ◌<◌, ◌≤◌, ◌^◌, ℕ, zero, suc, min, Bool, true, false, List, [], ◌∷◌, ◌++◌, None, map, take, length, get_or, IsTrue, refl, sym, ap, subst, ◌∙◌, append_assoc, arith}
 use Rattle.std.proofs.lemmas.List.{take_all, take_at, take_more, length-map, length-append, length-take, length-take-le, map-append}
@@ -40,7 +40,7 @@ none_mapped : {X Y : Type 0} (f : X → Y) (xs : List X) → map f xs ≡ [] →
 none_mapped f [] none = refl
 none_mapped f (x ∷ xs) none = absurd (let g : f x ∷ map f xs ≡ [] = none in cc)
 
--- Lemmas on adding one difference of a meter to the findings of an audit.
+-- Lemmas on adding one discrepancy of a meter to the findings of an audit.
 
 pub append_none : {X : Type 0} (xs : List X) → xs ++ [] ≡ xs
 append_none [] = refl
@@ -92,8 +92,8 @@ all_kept meter differences i old mid new le kept same = record {
   kept = ap (λ v. v.items) same ∙ kept.kept;
 }
 
--- No finding exists after a meter's differences are added if and only if none existed before and
--- the meter has no difference.
+-- After the discrepancies of a meter are added, an audit has no finding if and only if the earlier
+-- findings and these discrepancies are both empty.
 
 none_reported_named : (meter : List ℕ) (differences : List Difference) (old new : Findings) → KeepsFirst meter differences old new
     → (new.first.items ≡ []) ↔ ((old.first.items ≡ []) × (differences ≡ []))
@@ -126,7 +126,7 @@ reported_named place row rows meter fine before found given old new last given_i
       λ is. items ∙ reported.1 (is.0, as_fine.0 (same.1 is.1)),
     )
 
--- Lemmas on differences that belong to no meter.
+-- Lemmas on discrepancies that belong to no meter.
 
 take_twice : {X : Type 0} (n : ℕ) (xs ys : List X) → take n (take n xs ++ ys) ≡ take n (xs ++ ys)
 take_twice zero xs ys = refl
@@ -182,7 +182,7 @@ none_so_reported ds old new reported none no_more =
     reported.kept ∙ ap (λ (fs : List Finding). take MOST (fs ++ map of_none ds)) none
     ∙ ap (λ (es : List Difference). take MOST (map of_none es)) no_more ∙ take_all MOST [] (omega arith)
 
--- If a finding of an audit has no meter's name, then it equals the finding that is built from its
--- difference alone.
+-- A finding without a meter's name equals the finding that `of_none` builds from the same
+-- discrepancy.
 pub with_none : (n : ℕ) (fs : List Finding) (f : Finding) → f.meter ≡ None → take n (fs ++ f ∷ []) ≡ take n (fs ++ of_none f.difference ∷ [])
 with_none n fs f none = ap (λ m. let g : Finding = record { meter = m; difference = f.difference } in take n (fs ++ g ∷ [])) none

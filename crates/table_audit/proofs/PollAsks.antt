@@ -1,5 +1,5 @@
--- Lemmas on the result rows of the audit's queries for polls and outcomes, for rows with any column
--- values.
+-- Lemmas on the result rows of the audit's queries for polls and outcomes. The columns of the
+-- queried tables may have any values.
 use Rattle.std.proofs.Common.{◌≡◌, ℤ, Bool, true, false, ◌&&◌, List, [], ◌∷◌, refl, sym, ap, ◌∙◌}
 use Rattle.std.specs.Ordering.{is_gt}
 use Rattle.sqlite.specs.declared.types.Value.TheVariants.{Int}

@@ -1,5 +1,5 @@
--- The lemma on the differences that an audit reports for all polls up to the greatest poll number
--- in the tables.
+-- The lemma about the audit of polls: it reports the discrepancies of all polls up to the greatest
+-- poll number in the tables.
 use Rattle.std.proofs.Common.{◌≡◌, ℕ, [], Option, Result, Ok, Err, unwrap_or, sym, subst}
 use Rattle.store_tables.specs.Content.{Content}
 use Rattle.store_tables.specs.declared.faults.RowFault.{RowFault}

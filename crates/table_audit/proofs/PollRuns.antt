@@ -1,4 +1,4 @@
--- Lemmas on the audit of consecutive runs of polls. A run has `RUN` consecutive poll numbers.
+-- Lemmas on the audit of polls, which reads them in runs. A run has `RUN` consecutive poll numbers.
 use Rattle.std.proofs.Common.{◌≡◌, ◌⊎◌, inl, inr, ◌<◌, ◌≤◌, ◌+◌, ◌*◌, ◌/◌, ◌%◌, ◌^◌, ◌-◌, ℕ, suc, min, Bool, false, List, [], ◌∷◌, ◌++◌, length, refl, sym, ap, subst, ◌∙◌, arith}
 use Rattle.std.proofs.lemmas.Grind.{div_ceil_times}
 use Rattle.std.proofs.lemmas.List.{length-append}
@@ -35,8 +35,8 @@ stopped_full [] found none = absurd none
 stopped_full (x ∷ []) found stops = stops.1
 stopped_full (x ∷ y ∷ ys) found stops = stopped_full (y ∷ ys) found stops
 
--- The state of the audit's loop after the first `n` runs of polls: the rows of these runs were
--- read, and their differences were reported.
+-- The state of the audit's loop after the first `n` runs of polls (`RUN` consecutive numbers each):
+-- the rows of these runs were read, and their discrepancies were reported.
 pub record IsSoFar (last n : ℕ) (old new : Findings) (content : Content) : Type 0 where
   pub runs : List RunRows
   pub long : length runs ≡ n
@@ -102,7 +102,7 @@ up_to_stop last n old mid new content goes_on before one stopped =
     reports_runs_so last old new content (before.runs ++ one.rows ∷ []) (more_theirs last n old mid new content goes_on before one)
     (more_reported last n old mid new content goes_on before one) (inr (stops_last before.runs one.rows new (one.stops stopped)))
 
--- Lemmas on the number of runs of polls up to the last poll.
+-- Lemmas on the number of runs (of `RUN` consecutive polls each) up to the last poll.
 
 pub runs_reach : (last runs : ℕ) → runs ≡ last / RUN + min 1 (last % RUN) → last ≤ runs * RUN
 runs_reach last runs is = let times = div_ceil_times last RUN (omega arith) in subst (λ (n : ℕ). last ≤ n * RUN) (sym is) times.0

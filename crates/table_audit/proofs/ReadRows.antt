@@ -8,8 +8,8 @@ use Rattle.store_tables.proofs.ReadLemmas.{ok_is, then_read}
 use Rattle.table_audit.specs.Reading.{all_in}
 
 module _ {X : Type 0} (read : Row → Result X RowFault) where
-  -- If a valid row is appended to a list of valid rows, then its value is appended to the parsed
-  -- values.
+  -- Suppose that a list of rows and one more row are parsed without errors. If the row is appended
+  -- to the list, then its value is appended to the parsed values.
   read_more : (rows : List Row) (row : Row) (xs : List X) (x : X) → all_in read rows ≡ Ok xs → read row ≡ Ok x
       → all_in read (rows ++ row ∷ []) ≡ Ok (xs ++ x ∷ [])
   read_more [] row xs x h g =

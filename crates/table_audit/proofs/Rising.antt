@@ -1,4 +1,4 @@
--- Lemmas on the check that a list of indices is strictly increasing.
+-- Lemmas on the check that the numbers in a list (indices of entries) are strictly increasing.
 use Rattle.std.proofs.Common.{◌≡◌, ℕ, suc, ◌+◌, ◌<◌, ◌≤◌, ◌⊎◌, nat_lt, nat_le, Bool, true, false, ◌&&◌, List, ◌∷◌, drop, length, get_or, refl, sym, ap, ◌∙◌, inl, inr, arith, add-one}
 use Rattle.std.proofs.Math.Seq.{drop-cons}
 use Rattle.std.proofs.Math.ListN.{drop_of_length-le}
@@ -30,16 +30,16 @@ stops after most p ps (inl low) = ap (λ b. b && nat_le p most && rises p most p
 stops after most p ps (inr high) =
     ap (λ b. nat_lt after p && b && rises p most ps) (le_not p most high) ∙ and_false (nat_lt after p) (rises p most ps)
 
--- If a list's index at position `i` is in range and greater than the previous index, the check of
--- the list continues after `i`.
+-- Suppose that the check has accepted the numbers before position `i`. If the number at `i` is in
+-- range and greater than the previous number, the check continues after `i`.
 pub rises_more : (places : List ℕ) (i d after most : ℕ) → i < length places → rises 1 most places ≡ rises after most (drop i places)
     → after < get_or places i d → get_or places i d ≤ most → rises 1 most places ≡ rises (get_or places i d) most (drop (i + 1) places)
 rises_more places i d after most lt h low high =
     h ∙ ap (rises after most) (drop-cons places i d lt) ∙ goes_on after most (get_or places i d) (drop (suc i) places) low high
     ∙ ap (λ n. rises (get_or places i d) most (drop n places)) (sym (add-one i))
 
--- If a list's index at position `i` is out of range or not greater than the previous index, the
--- check of the list fails.
+-- Suppose that the check has accepted the numbers before position `i`. If the number at `i` is out
+-- of range or not greater than the previous number, the check fails.
 pub rises_not : (places : List ℕ) (i d after most : ℕ) → i < length places → rises 1 most places ≡ rises after most (drop i places)
     → (get_or places i d ≤ after) ⊎ (most < get_or places i d) → rises 1 most places ≡ true → ⊥
 rises_not places i d after most lt h astray all =

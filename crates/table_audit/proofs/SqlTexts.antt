@@ -19,7 +19,7 @@ use Rattle.store_tables.proofs.Scans.{scan, no_limit, one, is_param, rising, fal
 abbrev pub of_meter : List Term
 of_meter = is_param 1 0 ∷ []
 
--- Lemmas on the meaning of the SQL query `range_rows`.
+-- Lemmas on the meaning of the SQL query for the range of a meter's counter.
 
 abbrev pub range_rows : List ℕ
 range_rows = codes "SELECT \"range\" FROM ranges WHERE meter = ?1"
@@ -46,7 +46,7 @@ pub range_rows_suits : (meter : List ℕ) → Suits books_schema range_rows (Tex
 unfolding understood everything
 range_rows_suits meter = suits_scan 18 of_meter range_project [] no_limit range_rows range_names (Text meter ∷ []) (refl, refl, refl) range_rows_plain range_rows_unlisted range_rows_is refl
 
--- Lemmas on the meaning of the SQL query `share_rows`.
+-- Lemmas on the meaning of the SQL query for a meter's energy by quarter hours.
 
 abbrev pub share_rows : List ℕ
 share_rows = codes "SELECT start, mwh FROM intervals WHERE meter = ?1 ORDER BY start"
@@ -73,7 +73,7 @@ pub share_rows_suits : (meter : List ℕ) → Suits books_schema share_rows (Tex
 unfolding understood everything
 share_rows_suits meter = suits_scan 14 of_meter share_project ((col 1 2, rising) ∷ []) no_limit share_rows share_names (Text meter ∷ []) (refl, refl, refl) share_rows_plain share_rows_unlisted share_rows_is refl
 
--- Lemmas on the meaning of the SQL query `installation_rows`.
+-- Lemmas on the meaning of the SQL query for all rows of `installations`.
 
 abbrev pub installation_rows : List ℕ
 installation_rows = codes "SELECT place, meter, register, ceiling, ended, last_moment, last_raw, last_sf, total FROM installations ORDER BY place"
@@ -102,7 +102,7 @@ pub installation_rows_suits : Suits books_schema installation_rows []
 unfolding understood everything
 installation_rows_suits = suits_scan 7 [] installation_project ((col 1 0, rising) ∷ []) no_limit installation_rows installation_names [] (refl, refl, refl) installation_rows_plain installation_rows_unlisted installation_rows_is refl
 
--- Lemmas on the meaning of the SQL query `mark_rows`.
+-- Lemmas on the meaning of the SQL query for the rows of the table `meta`.
 
 abbrev pub mark_rows : List ℕ
 mark_rows = codes "SELECT id, version, zone FROM meta ORDER BY id"
@@ -129,7 +129,7 @@ pub mark_rows_suits : Suits books_schema mark_rows []
 unfolding understood everything
 mark_rows_suits = suits_scan 0 [] mark_project ((col 1 0, rising) ∷ []) no_limit mark_rows mark_names [] (refl, refl, refl) mark_rows_plain mark_rows_unlisted mark_rows_is refl
 
--- Lemmas on the meaning of the SQL query `last_poll`.
+-- Lemmas on the meaning of the SQL query for the greatest poll number.
 
 abbrev pub last_poll : List ℕ
 last_poll = codes "SELECT poll FROM polls ORDER BY poll DESC LIMIT 1"
@@ -161,7 +161,7 @@ last_poll_suits = suits_scan 11 [] last_project ((col 1 0, falling) ∷ []) one 
 abbrev pub in_run : List Term
 in_run = op2 (Compare Ge Binary) (col 1 0) (col 0 0) ∷ op2 (Compare Le Binary) (col 1 0) (col 0 1) ∷ []
 
--- Lemmas on the meaning of the SQL query `poll_rows`.
+-- Lemmas on the meaning of the SQL query for the polls with numbers in a range.
 
 abbrev pub poll_rows : List ℕ
 poll_rows = codes "SELECT poll, unit, started, tid, function, address, count, device FROM polls WHERE poll >= ?1 AND poll <= ?2 ORDER BY poll"
@@ -188,7 +188,7 @@ pub poll_rows_suits : (low high : ℤ) → Suits books_schema poll_rows (Int low
 unfolding understood everything
 poll_rows_suits low high = suits_scan 11 in_run poll_project ((col 1 0, rising) ∷ []) no_limit poll_rows poll_names (Int low ∷ Int high ∷ []) (refl, refl, refl) poll_rows_plain poll_rows_unlisted poll_rows_is refl
 
--- Lemmas on the meaning of the SQL query `outcome_rows`.
+-- Lemmas on the meaning of the SQL query for the outcomes of polls with numbers in a range.
 
 abbrev pub outcome_rows : List ℕ
 outcome_rows = codes "SELECT poll, moment, outcome, code FROM outcomes WHERE poll >= ?1 AND poll <= ?2 ORDER BY poll"

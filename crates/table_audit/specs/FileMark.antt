@@ -1,4 +1,5 @@
--- Defines when the table `meta` has exactly the one row of a file of the present version.
+-- Defines when the table `meta` has exactly one row, and this row is that of a file of the
+-- program's present version.
 use Rattle.std.specs.Prelude.{◌≡◌, ◌↔◌, ℕ, pos, Bool, List, [], ◌∷◌, IsTrue, IsUtf8}
 use Rattle.interval_core.specs.Zone.{IsZoneText}
 use Rattle.sqlite.specs.declared.types.Value.TheVariants.{Int, Text}
@@ -17,7 +18,7 @@ mark_shown row = column row 0 ∷ column row 2 ∷ column row 3 ∷ []
 abbrev pub ShowsMarks : Content → List Row → Type 0
 ShowsMarks content rows = Shows every InPlace mark_shown (content meta) rows
 
--- True if the third column of a result row is a text that is a time zone.
+-- True if the third column of a result row is a text that names a valid time zone.
 pub record HasZone (row : Row) : Type 0 where
   pub zone : List ℕ
   pub shown : column row 2 ≡ Text zone
@@ -34,8 +35,8 @@ pub record IsMark (row : Row) : Type 0 where
 abbrev pub AreMarks : List Row → Type 0
 AreMarks rows = (row : Row) × (rows ≡ row ∷ []) × IsMark row
 
--- True if the Boolean `fine` says correctly whether `meta` has exactly the one row of a file of the
--- present version.
+-- True if the Boolean `fine` is true exactly when `meta` has one row only, which is that of a file
+-- of the present version.
 pub record ReportsMark (content : Content) (fine : Bool) : Type 0 where
   pub rows : List Row
   pub shown : ShowsMarks content rows

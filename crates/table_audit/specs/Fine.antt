@@ -1,4 +1,4 @@
--- Defines when an audit finds no difference in a meter's rows.
+-- Defines when an audit finds no discrepancy in a meter's rows.
 use Rattle.std.specs.Prelude.{◌≡◌, ◌↔◌, ℕ, Bool, List, [], ◌∷◌, Ok, IsTrue}
 use Rattle.interval_core.specs.declared.shares.Share.{Share}
 use Rattle.meter_journal.specs.declared.audit.rows.TableRow.{TableRow}
@@ -22,7 +22,7 @@ pub record IsFine (installation : InstallationRow) (rows : MeterRows) : Type 0 w
   pub shares_read : all_in share_in rows.intervals.items ≡ Ok shares
   pub lawful : IsLawful range installation voids entries shares
 
--- True if the Boolean `fine` says correctly whether the meter's rows follow from a history that the
+-- True if the Boolean `fine` is true exactly when the meter's rows follow from a history that the
 -- rules accept.
 pub record ReportsFine (meter : List ℕ) (installation : InstallationRow) (content : Content)
     (fine : Bool) : Type 0 where

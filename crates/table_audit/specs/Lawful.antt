@@ -48,7 +48,8 @@ tables_from entries shares row = record {
 }
 
 -- States that the values read for a meter follow from a history that the rules accept. Each void
--- record (cancellation) names an entry after the first one, and no entry has two void records.
+-- record (cancellation) names an entry after the first one, and no two void records name the same
+-- entry.
 pub record IsLawful (range : ℕ) (row : InstallationRow) (voids : List ℕ)
     (entries : List TableRow) (shares : List Share) : Type 0 where
   pub opening : TableRow
@@ -60,8 +61,8 @@ pub record IsLawful (range : ℕ) (row : InstallationRow) (voids : List ℕ)
   pub fine : AreFine meter (tables_from entries shares row)
   pub named : rises 1 (length entries) voids ≡ true
 
--- States that the last entry, total energy and closed flag in the `installations` row equal those
--- that checking all entries gives.
+-- States that the last entry, total energy and closed flag in a meter's `installations` row equal
+-- those that result from checking all the meter's entries.
 pub record StandsThere (row : InstallationRow) (check : Check) : Type 0 where
   pub last : last_in row.last ≡ check.last
   pub total : row.last.total ≡ check.total

@@ -1,4 +1,4 @@
--- Contracts of queries that assume nothing about the contents of the tables.
+-- Contracts of database queries that assume nothing about the contents of the tables.
 use Rattle.std.specs.Prelude.{◌≡◌, ℕ, map, false, Result, IfOk, IfErr, IsTrue}
 use Rattle.std.specs.List.Sorted.{IsPermutation}
 use Rattle.sqlite.specs.Order.{Row}
@@ -12,8 +12,8 @@ use Rattle.store_tables.specs.Schema.{books_schema}
 use Rattle.store_tables.specs.Content.{Content, AreApart, AreTables, HasTree, is_numbered, reported}
 use Rattle.store_tables.specs.Failing.{IsFault, StateAfterCall}
 
--- True if the store's tables have the rows of `content`, and no rowid occurs twice in a table. The
--- definition holds for any schema of the database.
+-- True if the tables of a database have the rows of `content`, and no rowid occurs twice in a
+-- table. The definition does not depend on the schema of the database.
 pub record AreRows (db : Database) (content : Content) : Type 0 where
   pub rows : (t : ℕ) → HasTree books_schema.tables t
       → IsPermutation (map (reported (is_numbered t)) (db.trees t)) (content t)
@@ -24,15 +24,15 @@ abbrev pub itself : Row → Row
 itself row = row
 
 module _ {S : Type 0} (g : Ghosts S) where
-  -- States that the committed tables have the content `content`, if the connection is open and
-  -- reads of the disk return what was written.
+  -- States that, if the connection is open and reads of the disk return what was written, then the
+  -- committed tables have the content `content`.
   unfoldable pub HoldsTables : Held S → Content → Type 0
   HoldsTables h content =
       HasCleanDisk (state g h) → IsTrue (state g h).is_open
       → AreTables (state g h).committed content
 
-  -- States that the committed tables have the rows of `content`, if the connection is open and
-  -- reads of the disk return what was written. Nothing is assumed of the schema.
+  -- States that, if the connection is open and reads of the disk return what was written, then the
+  -- committed tables have the rows of `content`. Nothing is assumed about the schema.
   unfoldable pub HoldsRows : Held S → Content → Type 0
   HoldsRows h content =
       HasCleanDisk (state g h) → IsTrue (state g h).is_open
@@ -50,9 +50,9 @@ module _ {S : Type 0} (g : Ghosts S) where
     pub goes : (content : Content) → HoldsTables old content → HasCleanDisk (state g new)
         → StateAfterCall (state g old) (state g new)
 
--- The contract of a query, if the disk returned what was written to it. On Ok, the result is true
--- of the tables. On Err, the error satisfies `IsStoreError` and is never `Damaged`. The query
--- changes nothing.
+-- The contract of a query, if the disk returned what was written to it. If the query succeeds, its
+-- result is true of the tables. If the query fails, the error is that of the store
+-- (`IsStoreError`), and never `Damaged`. The query changes nothing.
 pub record Finds {S A : Type 0} (g : Ghosts S) (old new : Held S) (result : Result A RowFault)
     (Says : Content → A → Type 0) : Type 0 where
   pub answer : (content : Content) → HoldsTables g old content → HasCleanDisk (state g new)

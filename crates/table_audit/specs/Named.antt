@@ -1,5 +1,5 @@
--- Defines how an audit adds a meter's differences to its findings. A finding is a difference with a
--- meter's name.
+-- Defines how an audit adds the discrepancies of a meter to its findings. A finding is a
+-- discrepancy with a meter's name.
 use Rattle.std.specs.Prelude.{◌≡◌, ◌+◌, ◌-◌, ℕ, List, ◌++◌, map, take, length, Some, None, string_bytes}
 use Rattle.std.specs.List.{AllByRecursion}
 use Rattle.table_audit.specs.declared.differences.Difference.{Difference}
@@ -15,8 +15,8 @@ difference_of finding = finding.difference
 abbrev pub IsUnder : (meter : List ℕ) → Finding → Type 0
 IsUnder meter finding = (name : _) × (finding.meter ≡ Some name) × (string_bytes name ≡ meter)
 
--- States that the differences of a meter are added to an audit's findings, with the meter's name.
--- At most `MOST` findings are stored.
+-- States that the discrepancies found for a meter are added to an audit's findings, each with the
+-- meter's name. At most `MOST` findings are stored in total.
 pub record KeepsFirst (meter : List ℕ) (differences : List Difference) (old new : Findings) :
     Type 0 where
   pub added : List Finding
@@ -24,12 +24,12 @@ pub record KeepsFirst (meter : List ℕ) (differences : List Difference) (old ne
   pub named : AllByRecursion (IsUnder meter) added
   pub kept : new.first.items ≡ take MOST (old.first.items ++ added)
 
--- Builds a finding of an audit without a meter's name from a difference.
+-- Builds a finding of an audit without a meter's name from a discrepancy.
 abbrev pub of_none : Difference → Finding
 of_none difference = record { meter = None; difference = difference }
 
--- States that differences that belong to no meter are added to an audit's findings. At most `MOST`
--- findings are stored, and further findings are only counted.
+-- States that discrepancies that belong to no meter are added to an audit's findings. At most
+-- `MOST` findings are stored in total, and further findings are only counted.
 pub record IsReported (differences : List Difference) (old new : Findings) : Type 0 where
   pub kept : new.first.items ≡ take MOST (old.first.items ++ map of_none differences)
   pub more : new.more

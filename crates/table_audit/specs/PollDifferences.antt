@@ -1,4 +1,4 @@
--- Defines the differences between one run of polls and valid polls, in order. A run has `RUN`
+-- Defines the discrepancies that an audit reports for one run of polls, in order. A run has `RUN`
 -- consecutive poll numbers.
 use Rattle.std.specs.Prelude.{ℕ, suc, min, ◌+◌, ◌-◌, ◌*◌, ◌==◌, Bool, false, nat_lt, nat_le, ◌&&◌, List, [], ◌∷◌, ◌++◌, Option, Some, None, Result, Ok, Err, if◌then◌else◌, unwrap_or}
 use Rattle.std.specs.List.{list_any}
@@ -22,12 +22,13 @@ use Rattle.table_audit.specs.declared.poll_rows.TheConstants.{RUN}
 abbrev pub first_number : (run : ℕ) → ℕ
 first_number run = run * RUN + 1
 
--- The last poll number of a run of polls, at most `last`, which is the greatest number of all
--- polls.
+-- The last poll number of a run of polls (`RUN` consecutive numbers). It is at most `last`, the
+-- greatest number of all polls.
 abbrev pub last_number : (run last : ℕ) → ℕ
 last_number run last = min last ((run + 1) * RUN)
 
--- Concatenates the lists that the function `differs` returns for all rows, in order.
+-- Concatenates the lists of discrepancies that the function `differs` returns for all rows, in
+-- order.
 abbrev pub each_of : (Row → List Difference) → List Row → List Difference
 each_of differs [] = []
 each_of differs (row ∷ rows) = differs row ++ each_of differs rows
@@ -36,32 +37,34 @@ each_of differs (row ∷ rows) = differs row ++ each_of differs rows
 abbrev pub number_in : Row → Option ℕ
 number_in row = whole_in 1 greatest_place (column row 0)
 
--- The difference with the cause `fault`, if a row can't be read. It has the row's poll number, or 0
--- if the number is out of range.
+-- If a row can't be read, a list with the discrepancy `fault`, otherwise an empty list. The
+-- discrepancy has the row's poll number, or 0 if this number is out of range.
 abbrev pub unread : {X : Type 0} → PollFault → Row → Result X RowFault → List Difference
 unread fault row (Ok read) = []
 unread fault row (Err why) = Poll (unwrap_or (number_in row) 0) fault ∷ []
 
--- The difference of a `polls` row that has a value out of its range, or an empty list.
+-- A list with one discrepancy if a `polls` row has a value out of range, otherwise an empty list.
 abbrev pub unread_poll : Row → List Difference
 unread_poll row = unread OutOfRange row (poll_in row)
 
--- The difference of an `outcomes` row that has a value out of its range, or an empty list.
+-- A list with one discrepancy if an `outcomes` row has a value out of range, otherwise an empty
+-- list.
 abbrev pub unread_outcome : Row → List Difference
 unread_outcome row = unread EndOutOfRange row (outcome_in row)
 
--- The poll number of a `polls` row. It exists if the row was read, or if only another column could
--- not be read.
+-- The poll number of a `polls` row, or None if this number is out of range. The second argument is
+-- the result of parsing the row, which fails if any column is out of range.
 abbrev pub number_by : Row → Result PollRow RowFault → Option ℕ
 number_by row (Ok poll) = Some poll.number
 number_by row (Err why) = number_in row
 
--- The poll number of a `polls` row, whose other columns may be out of range.
+-- The poll number of a `polls` row, or None if this number is out of range. It does not matter
+-- whether other columns of the row are out of range.
 abbrev pub number_of : Row → Option ℕ
 number_of row = number_by row (poll_in row)
 
--- The difference that no poll has a number from `next` to `below` - 1. The list is empty if this
--- range is empty.
+-- A list with one discrepancy, which is that no poll has a number from `next` to `below` - 1. The
+-- list is empty if `next` is not less than `below`.
 abbrev pub gap : (next below : ℕ) → List Difference
 gap next below = if nat_lt next below then NoPolls next (below - 1) ∷ [] else []
 
@@ -69,8 +72,8 @@ gap next below = if nat_lt next below then NoPolls next (below - 1) ∷ [] else 
 abbrev pub rises : (next last number : ℕ) → Bool
 rises next last number = nat_le next number && nat_le number last
 
--- The differences that a poll number adds if `next` is the expected number. Either earlier numbers
--- are missing, or the poll number is out of order.
+-- The discrepancies that the audit reports at the poll number `number` if it expected `next`.
+-- Either the numbers from `next` to `number` - 1 are missing, or `number` is out of order.
 abbrev pub reported_at : (next last number : ℕ) → List Difference
 reported_at next last number =
     if rises next last number then gap next number else Poll number OutOfOrder ∷ []
@@ -80,20 +83,20 @@ reported_at next last number =
 abbrev pub next_after : (next last number : ℕ) → ℕ
 next_after next last number = if rises next last number then number + 1 else next
 
--- The differences that a `polls` row adds if `next` is the expected poll number. A row without a
--- number adds none.
+-- The discrepancies in the numbering that the audit reports at a `polls` row, if `next` is the
+-- expected poll number. A row whose number can't be read adds none.
 abbrev pub reported_by : (next last : ℕ) → Option ℕ → List Difference
 reported_by next last None = []
 reported_by next last (Some number) = reported_at next last number
 
--- The poll number that is expected after a `polls` row. After a row without a number, `next` is
--- still expected.
+-- The poll number that is expected after a `polls` row. If the row's number can't be read, `next`
+-- is still expected.
 abbrev pub after_by : (next last : ℕ) → Option ℕ → ℕ
 after_by next last None = next
 after_by next last (Some number) = next_after next last number
 
--- The differences of the poll numbers in the rows: numbers from `next` to `last` that are missing,
--- and numbers out of order.
+-- The discrepancies in the poll numbers of several rows: numbers from `next` to `last` that are
+-- missing, and numbers out of order.
 abbrev pub order_of : (next last : ℕ) → List Row → List Difference
 order_of next last [] = gap next (last + 1)
 order_of next last (row ∷ rows) =
@@ -118,29 +121,31 @@ early_by polls (Ok outcome) =
     if list_any (began outcome) polls then [] else Poll outcome.poll EndedBefore ∷ []
 early_by polls (Err why) = []
 
--- The difference of an outcome that has no poll, or has an earlier timestamp than its poll. The
--- list is empty if the outcome is in order.
+-- A list with one discrepancy if an outcome belongs to no poll, or has an earlier timestamp than
+-- its poll. Otherwise the list is empty.
 abbrev pub early : (polls : List Row) → Row → List Difference
 early polls row = early_by polls (outcome_in row)
 
--- The differences of all rows with values out of range, in one run of poll numbers.
+-- The discrepancies for all rows of one run of polls (`RUN` consecutive numbers) that have values
+-- out of range.
 abbrev pub values_of : RunRows → List Difference
 values_of rows =
     each_of unread_poll rows.polls.items ++ each_of unread_outcome rows.outcomes.items
 
--- The differences in the numbers and timestamps of a run of polls: missing numbers, numbers out of
--- order, and outcomes earlier than their polls.
+-- The discrepancies in the numbers and timestamps of a run of polls (`RUN` consecutive numbers):
+-- missing numbers, numbers out of order, and outcomes earlier than their polls.
 abbrev pub turns_of : (run last : ℕ) → RunRows → List Difference
 turns_of run last rows =
     order_of (first_number run) (last_number run last) rows.polls.items
     ++ each_of (early rows.polls.items) rows.outcomes.items
 
--- All differences of one run of polls: first values out of range, then missing or disordered poll
--- numbers, then outcomes earlier than their polls.
+-- All discrepancies of one run of polls (`RUN` consecutive numbers): first values out of range,
+-- then missing or disordered poll numbers, then outcomes earlier than their polls.
 abbrev pub differences_of_run : (run last : ℕ) → RunRows → List Difference
 differences_of_run run last rows = values_of rows ++ turns_of run last rows
 
--- All differences of consecutive runs of polls, beginning with the run at index `run`.
+-- All discrepancies of consecutive runs of polls (`RUN` consecutive numbers each), beginning with
+-- the run at index `run`.
 abbrev pub differences_of_runs : (run last : ℕ) → List RunRows → List Difference
 differences_of_runs run last [] = []
 differences_of_runs run last (rows ∷ others) =

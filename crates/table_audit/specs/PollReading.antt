@@ -12,8 +12,8 @@ use Rattle.table_audit.specs.declared.poll_rows.PollRow.{PollRow}
 abbrev pub greatest_count : (address : ℕ) → ℕ
 greatest_count address = min 125 (65536 - address)
 
--- Parses the number and the start time of a poll. All numeric columns of its row must be in their
--- ranges.
+-- Parses the number and the start time of a poll. If a numeric column of its row is out of range,
+-- the result is the error that reports a damaged file.
 abbrev pub poll_in : Row → Result PollRow RowFault
 poll_in row =
     and_then (or_damaged (whole_in 1 greatest_place (column row 0))) (λ number.
@@ -25,8 +25,8 @@ poll_in row =
     and_then (or_damaged (whole_in 1 (greatest_count address) (column row 6))) (λ count.
     Ok (record { number = number; started = started }))))))))
 
--- The least valid code of an outcome kind. The code is the device's code for an exception, 1 to 5
--- for a malformed response, 1 to 4 for a lost poll, and 0 otherwise.
+-- The least valid code of an outcome kind. The code is the device's exception code for an
+-- exception, 1 to 5 for a malformed response, 1 to 4 for a lost poll, and 0 otherwise.
 abbrev pub least_code : (kind : ℕ) → ℕ
 least_code kind = if kind == 4 then 1 else if kind == 5 then 1 else 0
 
@@ -36,8 +36,8 @@ abbrev pub greatest_code : (kind : ℕ) → ℕ
 greatest_code kind =
     if kind == 2 then 255 else if kind == 4 then 5 else if kind == 5 then 4 else 0
 
--- Parses the poll number and the timestamp of an outcome. All columns of its row must be in their
--- ranges.
+-- Parses the poll number and the timestamp of an outcome. If a column of its row is out of range,
+-- the result is the error that reports a damaged file.
 abbrev pub outcome_in : Row → Result OutcomeRow RowFault
 outcome_in row =
     and_then (or_damaged (whole_in 1 greatest_place (column row 0))) (λ poll.

@@ -1,4 +1,5 @@
--- Defines the results of queries for a run of polls, over tables with any content.
+-- Defines the results of queries for a run of polls (`RUN` consecutive poll numbers), over tables
+-- with any content.
 use Rattle.std.specs.Prelude.{◌≡◌, ℕ, ℤ, pos, negsuc, ◌+◌, ◌*◌, ◌==◌, Bool, false, ◌&&◌, List, [], ◌∷◌, if◌then◌else◌}
 use Rattle.std.specs.Ordering.{is_gt}
 use Rattle.sqlite.specs.Collation.TheVariants.{Binary}
@@ -27,12 +28,12 @@ outcomes_tree = 13
 abbrev pub least_number : ℤ
 least_number = negsuc 9223372036854775807
 
--- The least poll number in the run of polls at index `run`. The run at index 0 includes all poll
--- numbers below 1.
+-- The least poll number in the run of polls (`RUN` consecutive numbers) at index `run`. The run at
+-- index 0 includes all poll numbers below 1.
 abbrev pub low_of : (run : ℕ) → ℤ
 low_of run = if run == 0 then least_number else pos (run * RUN + 1)
 
--- The greatest poll number in the run of polls at index `run`.
+-- The greatest poll number in the run of polls (`RUN` consecutive numbers) at index `run`.
 abbrev pub high_of : (run : ℕ) → ℤ
 high_of run = pos ((run + 1) * RUN)
 
@@ -60,8 +61,8 @@ FromLast row later = is_gt (value_cmp (column later 0) (column row 0)) ≡ false
 abbrev pub number_shown : Row → Row
 number_shown row = column row 0 ∷ []
 
--- The result row of a query for a poll. It has the poll's number, the columns after the device's
--- name, and last the device's name.
+-- The result row of a query for a poll. It has the poll's number, the columns that follow the
+-- device's name in the table, and last the device's name.
 abbrev pub poll_shown : Row → Row
 poll_shown row =
     column row 0 ∷ column row 3 ∷ column row 4 ∷ column row 5 ∷ column row 6 ∷ column row 7
@@ -87,7 +88,8 @@ abbrev pub ShowsOutcomes : (run : ℕ) → Content → List Row → Type 0
 ShowsOutcomes run content rows =
     Shows (is_in_run run) InPlace outcome_shown (content outcomes_tree) rows
 
--- True if `rows` are all rows of `polls` and `outcomes` in the tables with poll numbers of the run.
+-- True if `rows` are all rows of the tables `polls` and `outcomes` whose poll numbers belong to the
+-- run (consecutive poll numbers) at index `run`.
 pub record AreRowsOfRun (run : ℕ) (content : Content) (rows : RunRows) : Type 0 where
   pub polls : ShowsPolls run content rows.polls.items
   pub outcomes : ShowsOutcomes run content rows.outcomes.items

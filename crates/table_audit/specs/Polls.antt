@@ -1,5 +1,5 @@
--- Defines when the polls in the tables have no difference, and which differences of polls an audit
--- reports.
+-- Defines when the polls in the tables have no discrepancy, and which discrepancies of polls an
+-- audit reports.
 use Rattle.std.specs.Prelude.{⊤, ◌≡◌, ◌≤◌, ◌↔◌, ◌⊎◌, ◌+◌, ◌*◌, ◌==◌, ℕ, suc, Bool, true, false, nat_lt, nat_le, ◌&&◌, List, [], ◌∷◌, length, Option, Ok, Result, MatchResult, unwrap_or}
 use Rattle.std.specs.List.{list_all, list_any}
 use Rattle.sqlite.specs.Order.{Row}
@@ -36,8 +36,9 @@ is_begun outcome poll = (poll.number == outcome.poll) && nat_le poll.started out
 abbrev pub has_begun : List PollRow → OutcomeRow → Bool
 has_begun polls outcome = list_any (is_begun outcome) polls
 
--- States that the rows of a run of polls have no difference: all values are in range, no poll
--- number is missing, and no poll ended before its start.
+-- States that the rows of a run of polls (`RUN` consecutive numbers) have no discrepancy. All
+-- values are in range, no poll number is missing, and no outcome is earlier than the start of its
+-- poll.
 pub record IsFineRun (run last : ℕ) (rows : RunRows) : Type 0 where
   pub polls : List PollRow
   pub outcomes : List OutcomeRow
@@ -46,27 +47,28 @@ pub record IsFineRun (run last : ℕ) (rows : RunRows) : Type 0 where
   pub numbered : are_numbered (first_number run) (last_number run last) polls ≡ true
   pub begun : list_all (has_begun polls) outcomes ≡ true
 
--- True if a list has the rows of consecutive runs of polls in the tables, beginning with the run at
--- index `run`.
+-- True if a list has the rows that the tables have for consecutive runs of polls (`RUN` consecutive
+-- numbers each), beginning with the run at index `run`.
 abbrev pub AreRuns : Content → (run : ℕ) → List RunRows → Type 0
 AreRuns content run [] = ⊤
 AreRuns content run (rows ∷ others) =
     AreRowsOfRun run content rows × AreRuns content (suc run) others
 
--- True if the rows of consecutive runs of polls have no difference, beginning with the run at index
--- `run`.
+-- True if the rows of consecutive runs of polls (`RUN` consecutive numbers each) have no
+-- discrepancy, beginning with the run at index `run`.
 abbrev pub AreFineRuns : (run last : ℕ) → List RunRows → Type 0
 AreFineRuns run last [] = ⊤
 AreFineRuns run last (rows ∷ others) = IsFineRun run last rows × AreFineRuns (suc run) last others
 
--- True if the audit may end after a run of polls with these rows: the run has no poll, and `MOST`
--- differences are already stored. This bounds the time for a damaged file with a very large poll
--- number.
+-- True if the audit is allowed to stop after a run of polls (`RUN` consecutive numbers) with these
+-- rows. The run must have no poll, and `MOST` discrepancies must already be stored. This bounds the
+-- audit's time for a damaged file with a very large poll number.
 abbrev pub Stops : RunRows → Findings → Type 0
 Stops rows found = (rows.polls.items ≡ []) × (MOST ≤ length found.first.items)
 
--- States that the audit of one run of polls reports the run's differences. If `goes_on` is false,
--- the audit ends, because this run has no poll and `MOST` differences are already stored.
+-- States that the audit of one run of polls (`RUN` consecutive numbers) reports the run's
+-- discrepancies. If `goes_on` is false, the audit ends, because this run has no poll and `MOST`
+-- discrepancies are already stored.
 pub record ReportsRun (run last : ℕ) (old new : Findings) (content : Content) (goes_on : Bool) :
     Type 0 where
   pub rows : RunRows
@@ -74,16 +76,16 @@ pub record ReportsRun (run last : ℕ) (old new : Findings) (content : Content) 
   pub reported : IsReported (differences_of_run run last rows) old new
   pub stops : goes_on ≡ false → Stops rows new
 
--- True if the audit may end after the last run of polls in the list: the run has no poll, and
--- `MOST` differences are already stored.
+-- True if the audit is allowed to stop after the last run of polls (`RUN` consecutive numbers) in
+-- the list. The run must have no poll, and `MOST` discrepancies must already be stored.
 abbrev pub StopsAfter : List RunRows → Findings → Type 0
 StopsAfter [] found = ⊥
 StopsAfter (rows ∷ []) found = Stops rows found
 StopsAfter (rows ∷ next ∷ others) found = StopsAfter (next ∷ others) found
 
 -- The contract of the audit of all polls, in runs of `RUN` consecutive numbers. The audit finds no
--- difference if and only if no run has one. It may end after a run without polls once `MOST`
--- differences are stored.
+-- discrepancy if and only if no run has one. Once `MOST` discrepancies are stored, the audit is
+-- allowed to stop after a run without polls.
 pub record ReportsRuns (last : ℕ) (old new : Findings) (content : Content) : Type 0 where
   pub runs : List RunRows
   pub theirs : AreRuns content 0 runs
@@ -100,8 +102,8 @@ with_polls polls counts = record counts { polls = polls }
 abbrev pub counting_polls : ℕ → Findings → Findings
 counting_polls polls found = record found { counts = with_polls polls found.counts }
 
--- The contract of the audit of all polls up to the greatest poll number that a query found, or 0
--- without polls. If the greatest number is out of range, the audit reports a difference.
+-- The contract of the audit of all polls up to the greatest poll number, which a query found (0 if
+-- there are no polls). If the greatest number is out of range, the audit reports a discrepancy.
 abbrev pub ReportsUpTo : Result (Option ℕ) RowFault → (old new : Findings) → Content → Type 0
 ReportsUpTo found old new content =
     MatchResult found

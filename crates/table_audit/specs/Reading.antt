@@ -35,7 +35,8 @@ abbrev pub is_named : (voids : List ℕ) → (place : ℕ) → Bool
 is_named voids place = list_any (λ v. v == place) voids
 
 -- Parses a meter entry from a result row. If `voids` contains the entry's index, the entry is
--- marked as voided (cancelled). If a column is out of its range, the result is an error for damage.
+-- marked as voided (cancelled). If a column is out of its range, the result is the error that
+-- reports a damaged file.
 abbrev pub entry_in : (voids : List ℕ) → Row → Result TableRow RowFault
 entry_in voids row =
     and_then (or_damaged (whole_in 1 greatest_place (column row 0))) (λ place.
@@ -57,33 +58,33 @@ entry_in voids row =
     }))))))))
 
 -- Parses the index of a voided (cancelled) entry from a result row. If the index is out of its
--- range, the result is an error for damage.
+-- range, the result is the error that reports a damaged file.
 abbrev pub place_in : Row → Result ℕ RowFault
 place_in row = or_damaged (whole_in 1 greatest_place (column row 0))
 
 -- Parses the start and the energy of a quarter hour from a result row. If a column is out of its
--- range, the result is an error for damage.
+-- range, the result is the error that reports a damaged file.
 abbrev pub share_in : Row → Result Share RowFault
 share_in row =
     and_then (or_damaged (whole_in 0 latest_moment (column row 0))) (λ start.
     and_then (or_damaged (whole_in 0 MAX_TOTAL (column row 1))) (λ mwh.
     Ok (record { start = start; mwh = mwh })))
 
--- Parses a counter's range from a result row. If the store does not allow the range, the result is
--- an error for damage.
+-- Parses a counter's range from a result row. If the program does not allow the range, the result
+-- is the error that reports a damaged file.
 abbrev pub range_in : Row → Result ℕ RowFault
 range_in row = or_damaged (whole_in MIN_RANGE MAX_RANGE (column row 0))
 
--- Parses all rows of a list with `read`. If `read` fails for a row, the result is the error of
--- `read`.
+-- Parses all rows of a list with the function `read`. If `read` fails for a row, the result is the
+-- error of the first such row.
 abbrev pub all_in : {X : Type 0} → (Row → Result X RowFault) → List Row
     → Result (List X) RowFault
 all_in read [] = Ok []
 all_in read (row ∷ rows) =
     and_then (read row) (λ x. and_then (all_in read rows) (λ xs. Ok (x ∷ xs)))
 
--- States that a result has the values that `read` returns for all rows, or is None because `read`
--- fails for one of the rows.
+-- States that a result has the values that `read` returns for all rows. If `read` fails for one of
+-- the rows, the result must be None.
 abbrev pub AreRead : {X Z : Type 0} → (Row → Result X RowFault) → List Row → Option (Vec X Z)
     → Type 0
 AreRead {X} read rows None = (xs : List X) → all_in read rows ≡ Ok xs → ⊥

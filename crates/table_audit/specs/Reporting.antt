@@ -1,9 +1,9 @@
--- Defines what an audit adds to its list of differences for one meter.
+-- Defines what the audit of one meter adds to a list of discrepancies.
 use Rattle.std.specs.Prelude.{◌≡◌, ◌<◌, Bool, true, false, length}
 use Rattle.table_audit.specs.declared.differences.Differences.{Differences}
 
--- States that the audit of a meter adds no difference if the meter's rows follow the rules.
--- Otherwise the list of differences is not empty after the audit.
+-- The effect of a meter's audit on the list of discrepancies. If `fine` is true (the meter's rows
+-- follow the rules), the list is unchanged. Otherwise it is not empty afterwards.
 abbrev pub Reports : (fine : Bool) → (old new : Differences) → Type 0
 Reports true old new = new ≡ old
 Reports false old new = 0 < length new.first.items

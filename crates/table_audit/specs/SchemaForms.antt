@@ -18,12 +18,13 @@ use Rattle.table_audit.specs.declared.schema.forms.IndexForm.{IndexForm}
 abbrev pub column_of : Bor (List ℕ) × Kind → Column
 column_of form = strict form.0.now form.1
 
--- The foreign key that a short form of a table describes.
+-- The foreign key that the short form of a foreign key describes.
 abbrev pub reference_of : KeyForm → Reference
 reference_of form =
     refers form.columns.now form.parent.now (map (λ text. text.now) form.parent_columns.now)
 
--- The list of columns whose default is the current time, which is empty.
+-- The empty list of columns whose default is the current time: no table of the program has such a
+-- column.
 abbrev pub no_stamps : Stamps
 no_stamps = record { places = []; terms = []; formats = [] }
 
@@ -44,7 +45,8 @@ table_of form = record {
   is_counted = false;
 }
 
--- The index that a short form describes, which SQLite makes for a UNIQUE or a PRIMARY KEY.
+-- The index that a short form describes. SQLite creates such an index for a UNIQUE or a PRIMARY
+-- KEY.
 abbrev pub index_of : IndexForm → Index
 index_of form = record {
   name = form.name.now;

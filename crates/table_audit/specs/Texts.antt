@@ -1,4 +1,4 @@
--- Defines the printed lines of an audit: one line for each difference, and a last line. Each
+-- Defines the printed lines of an audit: one line for each discrepancy, and a last line. Each
 -- definition `with_..` appends text to a given text.
 use Rattle.std.specs.Prelude.{◌+◌, ℕ, ◌==◌, Bool, true, false, List, [], ◌∷◌, ◌++◌, length, Option, Some, None, if◌then◌else◌}
 use Rattle.std.specs.Prelude.{codes, decimal, String, string_bytes}
@@ -29,8 +29,8 @@ table_name table.Entries = codes "entries"
 table_name table.Voids = codes "voids"
 table_name table.Intervals = codes "intervals"
 
--- Appends the reason why the rules for entries reject a meter entry after the earlier entries. Some
--- reasons are printed as numbers.
+-- Appends the reason for which the rules for entries reject a meter entry, given the earlier
+-- entries. Some reasons are printed with a numeric code.
 abbrev pub with_cause : List ℕ → RowFault → List ℕ
 with_cause text (cause.Place wanted) = text ++ codes "the next place is " ++ decimal wanted
 with_cause text cause.OpenedAgain = text ++ codes "the meter was opened before"
@@ -47,7 +47,8 @@ with_cause text (cause.Rolls wanted) =
 with_cause text (cause.Refused why) =
     text ++ codes "it would be refused, fault " ++ decimal (fault_number why)
 
--- Appends how the interval row of a quarter hour differs from the meter's entries.
+-- Appends in which way the stored energy of a quarter hour differs from the energy that follows
+-- from the meter's entries.
 abbrev pub with_interval : List ℕ → IntervalFault → List ℕ
 with_interval text (fault.Missing start wanted) =
     text ++ codes "interval " ++ decimal start ++ codes " has no row, entries give "
@@ -70,7 +71,7 @@ abbrev pub with_ended : List ℕ → Bool → List ℕ
 with_ended text true = text ++ codes "is not ended, entries end it"
 with_ended text false = text ++ codes "is ended, entries don't end it"
 
--- Appends the number of a poll, and how the poll differs from valid polls.
+-- Appends the number of a poll, and what is wrong with the poll.
 abbrev pub with_poll : List ℕ → (poll : ℕ) → PollFault → List ℕ
 with_poll text poll of_poll.OutOfRange =
     text ++ codes "poll " ++ decimal poll ++ codes " has a value that none may have"
@@ -81,14 +82,14 @@ with_poll text poll of_poll.OutOfOrder =
 with_poll text poll of_poll.EndedBefore =
     text ++ codes "poll " ++ decimal poll ++ codes " outcome comes before the poll"
 
--- Appends that no polls have the numbers from `first` to `last`.
+-- Appends the text that says that the polls with the numbers from `first` to `last` are missing.
 abbrev pub with_missing : List ℕ → (first last : ℕ) → List ℕ
 with_missing text first last =
     if first == last then text ++ codes "poll " ++ decimal first ++ codes " is missing"
     else text ++ codes "polls " ++ decimal first ++ codes " to " ++ decimal last
     ++ codes " are missing"
 
--- Appends the printed text of a difference that an audit found.
+-- Appends the printed text of a discrepancy that an audit found.
 abbrev pub with_difference : List ℕ → Difference → List ℕ
 with_difference text (difference.OutOfRange name) =
     text ++ codes "has a row in " ++ table_name name ++ codes " with a value that none may have"
@@ -111,13 +112,13 @@ with_difference text (difference.Ended wanted) = with_ended text wanted
 with_difference text (difference.NoPolls first last) = with_missing text first last
 with_difference text (difference.Poll poll of_it) = with_poll text poll of_it
 
--- Appends the name of a finding's meter, if the finding has a name.
+-- Appends the meter's name of an audit's finding, if the finding has one.
 abbrev pub with_meter : {Z : Type 0} → List ℕ → Option (String Z) → List ℕ
 with_meter text None = text
 with_meter text (Some name) = text ++ codes "meter " ++ string_bytes name ++ codes " "
 
--- Appends the printed line of a finding: the name of its meter, if it has a name, and its
--- difference.
+-- Appends the printed line of an audit's finding: the name of its meter, if it has one, and the
+-- discrepancy.
 abbrev pub with_line : List ℕ → Finding → List ℕ
 with_line text finding =
     with_difference (with_meter text finding.meter) finding.difference ++ codes "\n"
@@ -126,25 +127,25 @@ abbrev pub with_lines : List ℕ → List Finding → List ℕ
 with_lines text [] = text
 with_lines text (finding ∷ findings) = with_lines (with_line text finding) findings
 
--- Appends the number of differences beyond the printed ones to the text of an audit, if the number
--- is not 0.
+-- If the number of unprinted discrepancies is not 0, appends a line with this number to the text of
+-- an audit.
 abbrev pub with_more : List ℕ → ℕ → List ℕ
 with_more text more =
     if more == 0 then text else text ++ codes "and " ++ decimal more ++ codes " more\n"
 
--- Appends the last line of an audit without differences, with the counts of rows.
+-- Appends the last line of an audit that found no discrepancy, with the counts of rows.
 abbrev pub with_counts : List ℕ → Counts → List ℕ
 with_counts text counts =
     text ++ codes "fine: " ++ decimal counts.meters ++ codes " meters, "
     ++ decimal counts.entries ++ codes " entries, " ++ decimal counts.intervals
     ++ codes " intervals, " ++ decimal counts.polls ++ codes " polls\n"
 
--- Appends the last line of an audit with differences, which has their number.
+-- Appends the last line of an audit that found discrepancies, with the number of discrepancies.
 abbrev pub with_total : List ℕ → ℕ → List ℕ
 with_total text all = text ++ decimal all ++ codes " differences\n"
 
 -- Appends the last line of an audit: the word `fine` with the counts of rows, or the number of
--- differences.
+-- discrepancies.
 abbrev pub with_end : List ℕ → Findings → List ℕ
 with_end text found =
     if length found.first.items == 0 then with_counts text found.counts

@@ -1,6 +1,6 @@
-//! The differences that an audit reports between a file's tables and those that the program would
-//! write.
-ghost use Rattle.std.specs.Prelude.{◌≡◌, ◌<◌, ◌≤◌, [], length, OnOk};
+//! Defines the discrepancies that an audit reports. A discrepancy is a difference between a file's
+//! tables and those that the program would write.
+ghost use Rattle.std.specs.Prelude.{◌≡◌, ◌<◌, ◌≤◌, ◌+◌, ◌-◌, ◌++◌, ◌∷◌, [], length, take, OnOk};
 
 use energy_core::Last;
 use meter_journal::audit::{IntervalFault, RowFault};
@@ -16,7 +16,7 @@ pub enum Table {
     Intervals,
 }
 
-/// The ways in which a poll in the tables differs from the polls that the program records.
+/// The ways in which a poll in the tables can differ from the polls that the program would record.
 #[derive(Clone, Copy)]
 pub enum PollFault {
     /// The row of the poll has a value out of its range.
@@ -30,8 +30,8 @@ pub enum PollFault {
     EndedBefore,
 }
 
-/// A difference that an audit reports. A meter's rows differ from those of a history that the rules
-/// accept, or a poll differs from the polls that the program records.
+/// A discrepancy that an audit reports. A meter's rows differ from those of a history that the
+/// rules accept, or a poll differs from those that the program would record.
 #[derive(Clone, Copy)]
 pub enum Difference {
     /// A row of the meter in the given table has a value out of its range.
@@ -48,7 +48,8 @@ pub enum Difference {
     /// A void record, which cancels a false reading, names no entry after the first one, or names
     /// an entry that already has a void record.
     Void { place: u64 },
-    /// The stored energy of a quarter hour differs from the energy that the meter's entries give.
+    /// The stored energy of a quarter hour differs from the energy that follows from the meter's
+    /// entries.
     Interval(IntervalFault),
     /// The row of `installations` has the last entry `has`, but checking the meter's entries gives
     /// the last entry `wanted`.
@@ -65,10 +66,11 @@ pub enum Difference {
     Poll { poll: u64, fault: PollFault },
 }
 
-/// The greatest number of differences that an audit stores. Further differences are only counted.
+/// The greatest number of discrepancies that an audit stores. Further discrepancies are only
+/// counted.
 pub const MOST: usize = 100;
 
-/// The first differences of an audit, and the number of further differences.
+/// The first discrepancies that an audit found, and the number of further discrepancies.
 #[derive(Drop)]
 pub struct Differences {
     pub first: Vec<Difference>,
@@ -76,7 +78,9 @@ pub struct Differences {
 }
 
 impl Differences {
-    /// Creates an empty list of differences.
+    ghost use Rattle.table_audit.specs.Meters.{up_to_most};
+
+    /// Creates an empty list of discrepancies.
     pub fn new(alloc: Global) -> Differences
         ensures none { result.first.items ≡ [] }
         ensures more { result.more ≡ 0 }
@@ -87,17 +91,22 @@ impl Differences {
         }
     }
 
-    /// Appends a difference to the list, or only counts it if the list already has `MOST`
-    /// differences.
+    /// Appends a discrepancy to the list, or only counts it if the list already has `MOST`
+    /// discrepancies.
     pub fn push(&mut self, difference: Difference) -> Result<(), AllocError>
         requires few { length self.old.first.items ≤ MOST }
+        ensures kept { OnOk result (self.new.first.items
+            ≡ take MOST (self.old.first.items ++ difference ∷ [])) }
+        ensures more { OnOk result (self.new.more
+            ≡ up_to_most (self.old.more + (length self.old.first.items + 1 - MOST))) }
         ensures reported { OnOk result (0 < length self.new.first.items) }
         ensures few { OnOk result (length self.new.first.items ≤ MOST) }
     {
+        let more = self.more;
         if self.first.len() < MOST {
             self.first.push(difference)?;
         } else {
-            self.more = self.more.saturating_add(1);
+            self.more = more.saturating_add(1);
         }
         Ok(())
     }

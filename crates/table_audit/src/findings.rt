@@ -1,4 +1,4 @@
-//! The findings of an audit of all tables: each difference that was found, with the name of its
+//! The findings of an audit of all tables: each discrepancy that was found, with the name of its
 //! meter.
 ghost use Rattle.std.specs.Prelude.{◌≡◌, ◌≤◌, ◌+◌, ◌-◌, ◌++◌, ◌∷◌, [], length, take, IsTrue, ◌↔◌};
 ghost use Rattle.std.specs.Prelude.{IfOk, OnOk, Some, None};
@@ -8,7 +8,7 @@ use crate::differences::{Difference, MOST};
 use crate::rows::MeterRows;
 use std::alloc::{AllocError, Global};
 
-/// A difference that an audit found, with the name of its meter.
+/// A discrepancy that an audit found, with the name of its meter.
 #[derive(Drop)]
 pub struct Finding {
     /// The name of the meter. It is None if the finding is about a poll, or about a row of
@@ -17,7 +17,7 @@ pub struct Finding {
     pub difference: Difference,
 }
 
-/// The numbers of rows that an audit read.
+/// How many rows of each kind an audit read.
 #[derive(Clone, Copy, PartialEq, Eq)]
 pub struct Counts {
     pub meters: u64,
@@ -26,7 +26,7 @@ pub struct Counts {
     pub polls: u64,
 }
 
-/// The first findings of an audit, the number of further findings, and the numbers of rows read.
+/// The first findings of an audit, the number of further findings, and how many rows were read.
 #[derive(Drop)]
 pub struct Findings {
     pub first: Vec<Finding>,
@@ -57,7 +57,7 @@ impl Findings {
         }
     }
 
-    /// Returns whether the audit found no difference.
+    /// Returns whether the audit found no discrepancy.
     pub fn is_fine(&self) -> bool
         ensures { IsTrue result ↔ (self.now.first.items ≡ []) }
     {
@@ -83,8 +83,8 @@ impl Findings {
         Ok(())
     }
 
-    /// Appends the differences of a meter as findings with the meter's name, and adds the number of
-    /// the meter's further differences.
+    /// Appends the discrepancies of a meter as findings with the meter's name. Adds `more`, the
+    /// number of the meter's further discrepancies, to the number of further findings.
     pub(crate) fn append_differences(
         &mut self,
         alloc: Global,
@@ -109,7 +109,7 @@ impl Findings {
         Ok(())
     }
 
-    /// Appends differences that belong to no meter as findings without a name.
+    /// Appends discrepancies that belong to no meter as findings without a name.
     pub(crate) fn append_all(&mut self, found: &[Difference]) -> Result<(), AllocError>
         requires few { length self.old.first.items ≤ MOST }
         ensures reported { OnOk result (IsReported found.now self.old self.new) }
@@ -145,7 +145,7 @@ impl Findings {
         self.counts.meters = self.counts.meters.saturating_add(1);
     }
 
-    /// Sets the number of polls that the audit read.
+    /// Sets the count of the polls that the audit read.
     pub(crate) fn count_polls(&mut self, polls: u64)
         ensures { self.new ≡ counting_polls polls self.old }
     {
@@ -153,7 +153,7 @@ impl Findings {
     }
 }
 
-/// Builds a finding from a difference and the name of the meter in which the audit found it.
+/// Builds a finding from a discrepancy and the name of the meter in which the audit found it.
 fn under(alloc: Global, meter: &str, difference: &Difference) -> Result<Finding, AllocError>
     ensures meter { IfOk result (IsUnder meter.now) }
     ensures difference { IfOk result (λ finding. finding.difference ≡ difference.now) }
@@ -165,7 +165,7 @@ fn under(alloc: Global, meter: &str, difference: &Difference) -> Result<Finding,
     })
 }
 
-/// Builds a finding without a meter's name from a difference.
+/// Builds a finding without a meter's name from a discrepancy.
 fn alone(difference: &Difference) -> Finding
     ensures meter { result.meter ≡ None }
     ensures difference { result.difference ≡ difference.now }

@@ -45,7 +45,8 @@ fn go_over(
     Ok(None)
 }
 
-/// Reports each meter entry that the rules for entries reject, beginning with the first.
+/// Reports the first meter entry that the rules for entries reject, and each rejected entry after
+/// it.
 fn print_refused(
     meter: &Installed,
     progress: &mut Progress,
@@ -76,8 +77,8 @@ fn print_refused(
 }
 
 /// Returns the first index in `places` that is not greater than the previous index, or is not from
-/// 2 to `last`. A meter's void records (cancellations) must name entries with these indices in
-/// ascending order.
+/// 2 to `last`. The void records (cancellations) of a meter must name entries with ascending
+/// indices in this range.
 fn first_astray(last: u64, places: &[u64]) -> Option<u64>
     ensures { IsNone result ↔ (agreeing.rises 1 last places.now ≡ true) }
 {
@@ -92,7 +93,7 @@ fn first_astray(last: u64, places: &[u64]) -> Option<u64>
 }
 
 /// Reports the first void record (the cancellation of a reading) that names no entry after the
-/// opening (the first entry), or names an entry twice. Returns whether no void record is wrong.
+/// opening (the first entry), or names an entry again. Returns true if all void records are right.
 fn append_voids(last: u64, voids: &[u64], found: &mut Differences) -> Result<bool, AllocError>
     requires few { length found.old.first.items ≤ MOST }
     ensures named { IfOk result (λ named. IsTrue named ↔ (agreeing.rises 1 last voids.now ≡ true)) }
@@ -132,7 +133,7 @@ fn append_each(wanted: &[Share], has: &[Share], found: &mut Differences) -> Resu
 }
 
 /// Reports each difference between the stored interval rows (energies of quarter hours) and those
-/// that follow from the meter's entries. Returns whether no difference exists.
+/// that follow from the meter's entries. Returns true if they are equal.
 fn print_intervals(
     wanted: &[Share],
     has: &[Share],
@@ -154,7 +155,7 @@ fn print_intervals(
 }
 
 /// Reports that a meter's stored last entry `has` differs from the last entry `wanted` that follows
-/// from its entries. If the two are equal, `wanted` is None. Returns whether they are equal.
+/// from the meter's entries. `wanted` is None if the two are equal. Returns whether they are equal.
 fn append_last(has: Last, wanted: Option<Last>, found: &mut Differences) -> Result<bool, AllocError>
     requires few { length found.old.first.items ≤ MOST }
     ensures none { IfOk result (λ same. IsTrue same ↔ IsNone wanted) }
@@ -169,8 +170,8 @@ fn append_last(has: Last, wanted: Option<Last>, found: &mut Differences) -> Resu
 }
 
 /// Reports that a meter's stored total energy `has` differs from the total `wanted` that follows
-/// from its entries, both in mWh. If the two are equal, `wanted` is None. Returns whether they are
-/// equal.
+/// from the meter's entries, both in mWh. `wanted` is None if the two are equal. Returns whether
+/// they are equal.
 fn append_total(has: u64, wanted: Option<u64>, found: &mut Differences) -> Result<bool, AllocError>
     requires few { length found.old.first.items ≤ MOST }
     ensures none { IfOk result (λ same. IsTrue same ↔ IsNone wanted) }
@@ -184,8 +185,8 @@ fn append_total(has: u64, wanted: Option<u64>, found: &mut Differences) -> Resul
     Ok(false)
 }
 
-/// Reports that a meter's stored closed flag differs from the flag `wanted` that follows from its
-/// entries. If the two are equal, `wanted` is None. Returns whether they are equal.
+/// Reports that a meter's stored closed flag differs from the flag `wanted` that follows from the
+/// meter's entries. `wanted` is None if the two are equal. Returns whether they are equal.
 fn append_ended(wanted: Option<bool>, found: &mut Differences) -> Result<bool, AllocError>
     requires few { length found.old.first.items ≤ MOST }
     ensures none { IfOk result (λ same. IsTrue same ↔ IsNone wanted) }
@@ -200,7 +201,7 @@ fn append_ended(wanted: Option<bool>, found: &mut Differences) -> Result<bool, A
 }
 
 /// Reports each difference between a row of `installations` and the result of checking the meter's
-/// entries. Returns whether no difference exists.
+/// entries. Returns true if they agree.
 fn report_state(
     check: &Check,
     row: &InstallationRow,
@@ -230,7 +231,7 @@ fn report_state(
 }
 
 /// Reports where a meter's void records (cancellations), interval rows or `installations` row
-/// differ from the result of checking the meter's entries. Returns whether no difference exists.
+/// differ from the result of checking the meter's entries. Returns true if all agree.
 fn append_rest(
     progress: &Progress,
     row: &InstallationRow,
@@ -252,7 +253,7 @@ fn append_rest(
 }
 
 /// Returns whether the values read for a meter follow from a history of the meter that the rules
-/// accept. Adds each difference to `found`.
+/// accept. Adds each discrepancy to `found`.
 pub(crate) fn audit_read(
     alloc: Global,
     range: u64,

@@ -14,8 +14,8 @@ use sqlite::{Alter, Connection, Error, ErrorCode, Row};
 use std::alloc::{AllocError, Global};
 use store_tables::RowFault;
 
-/// Reports that a row of `installations` has the index `has`, if `wanted` is the next index and the
-/// two differ. Returns whether they are equal.
+/// Reports a row of `installations` whose index `has` differs from `wanted`, the index that should
+/// follow. Returns whether the two indices are equal.
 fn append_index(has: u64, wanted: u64, found: &mut Differences) -> Result<bool, AllocError>
     requires few { length found.old.first.items ≤ MOST }
     ensures placed { IfOk result (λ placed. IsTrue placed ↔ (has ≡ wanted)) }
@@ -30,7 +30,7 @@ fn append_index(has: u64, wanted: u64, found: &mut Differences) -> Result<bool, 
 }
 
 /// Returns whether a row of `installations` has the index `place`, and the meter's other rows
-/// follow from a history that the rules accept. Reports each difference.
+/// follow from a history that the rules accept. Adds each discrepancy to `found`.
 fn audit_installation(
     alloc: Global,
     place: u64,
@@ -135,8 +135,8 @@ fn audit_rows_of<S: Alter>(
 }
 
 /// Audits whether each meter in the tables has the rows of a history that the rules accept. Returns
-/// the differences and the numbers of rows read. Memory holds all rows of `installations`, and the
-/// rows of one meter at a time.
+/// the discrepancies, and how many rows were read. Memory holds all rows of `installations`, and
+/// the rows of one meter at a time.
 pub fn audit_meters<S: Alter>(alloc: Global, conn: &mut Connection<S>) -> Result<Findings, RowFault>
     requires mode { conn.old.in_transaction ≡ false }
     ensures finds { Finds S.Store conn.old conn.new result ReportsMeters }

@@ -1,5 +1,5 @@
-//! Finds the differences between one run of polls and valid polls, in order. A run is `RUN`
-//! consecutive poll numbers.
+//! Finds the discrepancies that an audit reports for one run of polls. A run is `RUN` consecutive
+//! poll numbers.
 ghost use Rattle.std.specs.Prelude.{◌≡◌, ◌≤◌, ◌<◌, ◌^◌, ◌++◌, ◌∷◌, [], true, IsTrue, IfOk, OnOk};
 ghost use Rattle.std.specs.List.{list_any};
 ghost use Rattle.store_tables.specs.Limits.{greatest_place};
@@ -22,7 +22,7 @@ fn number(row: &Row) -> Option<u64>
     }
 }
 
-/// Appends the fault of a poll to the differences in `found`.
+/// Appends the fault of a poll to the discrepancies in `found`.
 fn append_difference(
     found: &mut Vec<Difference>,
     poll: u64,
@@ -97,8 +97,8 @@ fn write_gap(next: u64, below: u64, found: &mut Vec<Difference>) -> Result<(), A
     Ok(())
 }
 
-/// Reports the poll numbers that are missing before a poll's number, or reports that the poll's
-/// number is out of order. Returns the number that the next poll should have.
+/// Reports the poll numbers from `next` that are missing before a poll's number, or reports that
+/// the poll's number is out of order. Returns the number that the next poll should have.
 fn write_number(
     next: u64,
     last: u64,
@@ -152,8 +152,8 @@ fn write_order(
     write_gap(next, last + 1, found)
 }
 
-/// Returns whether a row is the outcome's poll, and this poll started no later than the outcome's
-/// timestamp. If the row can't be read, only its poll number is compared.
+/// Returns whether a row is that of an outcome's poll, and this poll started no later than the
+/// outcome's timestamp. If the row can't be read, only its poll number is compared.
 fn began(outcome: &OutcomeRow, row: &Row) -> bool
     ensures { result ≡ differing.began outcome.now row.now }
 {
@@ -164,7 +164,8 @@ fn began(outcome: &OutcomeRow, row: &Row) -> bool
 }
 
 /// Returns whether an outcome belongs to the poll in the row at the expected index, and this poll
-/// started no later than the outcome. The expected index is right if no poll number is missing.
+/// started no later than the outcome's timestamp. The expected index is right if no poll number is
+/// missing.
 fn began_there(first: u64, polls: &[Row], outcome: &OutcomeRow) -> bool
     ensures { IsTrue result → list_any (differing.began outcome.now) polls.now ≡ true }
 {
@@ -189,7 +190,8 @@ fn began_anywhere(polls: &[Row], outcome: &OutcomeRow) -> bool
 }
 
 /// Returns whether an outcome belongs to one of the polls, and this poll started no later than the
-/// outcome. First tries the row at the expected index, because a search through all rows is slow.
+/// outcome's timestamp. First tries the row at the expected index, because a search through all
+/// rows is slow.
 fn has_begun(first: u64, polls: &[Row], outcome: &OutcomeRow) -> bool
     ensures { result ≡ list_any (differing.began outcome.now) polls.now }
 {
@@ -217,7 +219,8 @@ fn write_early(
     append_difference(found, outcome.poll, PollFault::EndedBefore)
 }
 
-/// Reports each outcome if no row has its poll, or if it is earlier than the start of its poll.
+/// Reports each outcome that has no poll among the rows, or that is earlier than the start of its
+/// poll.
 fn write_each_early(
     first: u64,
     polls: &[Row],
@@ -233,7 +236,7 @@ fn write_each_early(
     Ok(())
 }
 
-/// Reports the rows of a run of polls that have values out of range.
+/// Reports the rows of a run of polls (`RUN` consecutive numbers) that have values out of range.
 fn append_values(rows: &RunRows, found: &mut Vec<Difference>) -> Result<(), AllocError>
     ensures { OnOk result (found.new.items ≡ found.old.items ++ differing.values_of rows.now) }
 {
@@ -241,8 +244,8 @@ fn append_values(rows: &RunRows, found: &mut Vec<Difference>) -> Result<(), Allo
     write_unread_outcomes(rows.outcomes.as_slice(), found)
 }
 
-/// Returns the differences between a run of polls and valid polls. `last` is the greatest number of
-/// all polls.
+/// Returns the discrepancies that an audit reports for a run of polls (`RUN` consecutive numbers).
+/// `last` is the greatest number of all polls.
 pub(crate) fn run_differences(
     alloc: Global,
     run: u64,
@@ -259,8 +262,8 @@ pub(crate) fn run_differences(
     Ok(found)
 }
 
-/// Reports the missing poll numbers of a run of polls, the numbers out of order, and the outcomes
-/// earlier than their polls.
+/// Reports the missing poll numbers of a run of polls (`RUN` consecutive numbers), the numbers out
+/// of order, and the outcomes earlier than their polls.
 fn write_turns(
     run: u64,
     last: u64,

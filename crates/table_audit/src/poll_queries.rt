@@ -13,8 +13,9 @@ use sqlite::types::Value;
 use sqlite::{Alter, Connection, Error, Row, params};
 use store_tables::{RowFault, check_open, number};
 
-/// Returns the least poll number of a run of polls as an SQL integer. The first run includes all
-/// numbers below 1, so an audit also reads polls with such invalid numbers.
+/// Returns the least poll number of a run of polls (`RUN` consecutive numbers) as an SQL integer.
+/// The first run includes all numbers below 1, so that an audit also reads polls with such invalid
+/// numbers.
 fn low(run: u64) -> Value
     requires { run < 2 ^ 50 }
     ensures { result ≡ Int (showing.low_of run) }
@@ -25,7 +26,8 @@ fn low(run: u64) -> Value
     number(run * RUN + 1)
 }
 
-/// Returns the greatest poll number of a run of polls as an SQL integer.
+/// Returns the greatest poll number of a run of polls (`RUN` consecutive numbers) as an SQL
+/// integer.
 fn high(run: u64) -> Value
     requires { run < 2 ^ 50 }
     ensures { result ≡ Int (showing.high_of run) }
@@ -57,7 +59,8 @@ fn ask_polls<S: Alter>(conn: &mut Connection<S>, run: u64) -> Result<Vec<Row>, E
     )
 }
 
-/// Queries the outcomes of the polls in a run, in ascending order of poll numbers.
+/// Queries the outcomes of the polls in a run (`RUN` consecutive numbers), in ascending order of
+/// poll numbers.
 fn ask_outcomes<S: Alter>(conn: &mut Connection<S>, run: u64) -> Result<Vec<Row>, Error>
     requires { run < 2 ^ 50 }
     ensures asks { Asks S.Store conn.old conn.new }
@@ -97,7 +100,8 @@ fn polls<S: Alter>(conn: &mut Connection<S>, run: u64) -> Result<Vec<Row>, RowFa
     Ok(rows)
 }
 
-/// Queries the outcomes of the polls in a run, after checking that the database is open.
+/// Queries the outcomes of the polls in a run (`RUN` consecutive numbers), after checking that the
+/// database is open.
 fn outcomes<S: Alter>(conn: &mut Connection<S>, run: u64) -> Result<Vec<Row>, RowFault>
     requires mode { conn.old.in_transaction ≡ false }
     requires run { run < 2 ^ 50 }
@@ -109,7 +113,8 @@ fn outcomes<S: Alter>(conn: &mut Connection<S>, run: u64) -> Result<Vec<Row>, Ro
     Ok(rows)
 }
 
-/// Queries the polls of a run and their outcomes. `run` is the index of the run of polls, from 0.
+/// Queries the polls of a run (`RUN` consecutive numbers) and their outcomes. `run` is the index of
+/// the run, from 0.
 pub fn run_rows<S: Alter>(conn: &mut Connection<S>, run: u64) -> Result<RunRows, RowFault>
     requires mode { conn.old.in_transaction ≡ false }
     requires run { run < 2 ^ 50 }

@@ -38,7 +38,7 @@ fn greatest_code(kind: u64) -> u64
     }
 }
 
-/// Parses a row of `polls`. All its numeric columns must be in their ranges.
+/// Parses a row of `polls`. If a numeric column is out of its range, returns an error.
 pub(crate) fn poll(row: &Row) -> Result<PollRow, RowFault>
     ensures { result ≡ values.poll_in row.now }
 {
@@ -52,7 +52,7 @@ pub(crate) fn poll(row: &Row) -> Result<PollRow, RowFault>
     Ok(PollRow { number, started })
 }
 
-/// Parses a row of `outcomes`. All its columns must be in their ranges.
+/// Parses a row of `outcomes`. If a column is out of its range, returns an error.
 pub(crate) fn outcome(row: &Row) -> Result<OutcomeRow, RowFault>
     ensures { result ≡ values.outcome_in row.now }
 {

@@ -6,8 +6,8 @@ use sqlite::Row;
 /// first run begins at poll number 1.
 pub const RUN: u64 = 4096;
 
-/// The result rows of the queries for the polls and outcomes of a run, in order of poll numbers.
-/// The first run includes all poll numbers below 1.
+/// The result rows of the queries for the polls and outcomes of a run (`RUN` consecutive poll
+/// numbers), in order of poll numbers. The first run includes all poll numbers below 1.
 #[derive(Drop)]
 pub struct RunRows {
     pub polls: Vec<Row>,

@@ -17,8 +17,8 @@ use sqlite::{Alter, Connection, Error, ErrorCode};
 use std::alloc::{AllocError, Global};
 use store_tables::{GREATEST_PLACE, RowFault, first_whole};
 
-/// Reports the differences in the rows of a run of polls. Returns whether the audit continues with
-/// the next run.
+/// Reports the discrepancies in the rows of a run of polls (`RUN` consecutive numbers). Returns
+/// whether the audit continues with the next run.
 fn audit_rows_of(
     alloc: Global,
     run: u64,
@@ -39,8 +39,8 @@ fn audit_rows_of(
     Ok(rows.polls.len() > 0 || findings.first.len() < MOST)
 }
 
-/// Queries a run of polls and reports its differences. Returns whether the audit continues with the
-/// next run.
+/// Queries a run of polls (`RUN` consecutive numbers) and reports its discrepancies. Returns
+/// whether the audit continues with the next run.
 fn audit_run<S: Alter>(
     alloc: Global,
     conn: &mut Connection<S>,
@@ -63,9 +63,9 @@ fn audit_run<S: Alter>(
     }
 }
 
-/// Reports the differences of all polls, in runs of `RUN` consecutive poll numbers. After `MOST`
-/// differences are stored, the audit ends at the first run without polls. This bounds the time for
-/// a damaged file with a very large poll number.
+/// Reports the discrepancies of all polls, in runs of `RUN` consecutive poll numbers. After `MOST`
+/// discrepancies are stored, the audit ends at the first run without polls. This bounds the time
+/// for a damaged file with a very large poll number.
 fn audit_runs<S: Alter>(
     alloc: Global,
     conn: &mut Connection<S>,
@@ -89,7 +89,7 @@ fn audit_runs<S: Alter>(
     Ok(())
 }
 
-/// Reports the differences of all polls in the tables.
+/// Reports the discrepancies of all polls in the tables.
 fn audit_polls<S: Alter>(
     alloc: Global,
     conn: &mut Connection<S>,
@@ -132,9 +132,8 @@ fn append_last(findings: &mut Findings) -> Result<(), RowFault>
 }
 
 /// Audits all tables. Each meter must have the rows of a history that the rules accept. No poll may
-/// be missing, or end before its start. Returns the differences and the numbers of rows read.
-/// Memory holds all rows of `installations`, and the rows of one meter or one run of polls at a
-/// time.
+/// be missing, or end before its start. Returns the discrepancies, and how many rows were read.
+/// Memory holds all rows of `installations`, and the rows of one meter or of `RUN` polls at a time.
 pub fn audit_tables<S: Alter>(alloc: Global, conn: &mut Connection<S>) -> Result<Findings, RowFault>
     requires mode { conn.old.in_transaction ≡ false }
     ensures finds { Finds S.Store conn.old conn.new result said.ReportsTables }

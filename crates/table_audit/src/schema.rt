@@ -1,6 +1,6 @@
 //! Compares the schema of a file with the schema that the program creates. A schema is the
 //! definitions of the tables with their columns, keys and foreign keys, and the indexes. In a file
-//! with another schema, rows could occur twice or without their parent.
+//! with another schema, rows could occur twice, or could reference a missing row.
 ghost use Rattle.std.specs.Prelude.{◌≡◌, ◌≢◌, ◌↔◌, false, OnOk, IfErr, IsTrue};
 ghost use Rattle.store_tables.specs.Content.{Content};
 ghost use Rattle.store_tables.specs.Schema.{books_schema};
@@ -21,7 +21,8 @@ use sqlite_schema::schema::{Index, Schema};
 pub enum SchemaFault {
     /// The table with this name differs from the table that the program creates.
     Table(&'static str),
-    /// The file has another number of tables, other indexes, a view or a trigger.
+    /// The file has another number of tables than the program creates, other indexes, a view or a
+    /// trigger.
     Objects,
 }
 
@@ -84,14 +85,14 @@ const INDEXES: [IndexForm; 9] = [
     },
 ];
 
-// Compares the indexes of a schema with the indexes that the program creates.
+// Returns true if the indexes of a schema equal the indexes that the program creates.
 fn are_program_indexes(indexes: &[Index]) -> bool
     ensures { IsTrue result ↔ (indexes.now ≡ books_schema.indexes) }
 {
     are_indexes(indexes, &INDEXES)
 }
 
-// Returns Ok only if a schema equals the schema that the program creates in a new file.
+// Returns Ok if and only if a schema equals the schema that the program creates in a new file.
 fn check_schema(schema: &Schema) -> Result<(), SchemaFault>
     ensures same { OnOk result (schema.now ≡ books_schema) }
     ensures other { IfErr result (λ fault. schema.now ≢ books_schema) }
@@ -104,8 +105,9 @@ fn check_schema(schema: &Schema) -> Result<(), SchemaFault>
     }
 }
 
-/// Returns Ok only if a database has the schema that the program creates in a new file. SQLite has
-/// then checked the keys of all rows. The connection has no open transaction.
+/// Returns Ok if and only if a database has the schema that the program creates in a new file. With
+/// this schema, SQLite itself has checked the keys of all rows. The connection must have no open
+/// transaction.
 pub fn check_definitions<S: Alter>(conn: &Connection<S>) -> Result<(), SchemaFault>
     requires { conn.now.in_transaction ≡ false }
     ensures ours { OnOk result ((content : Content) → HoldsRows S.Store conn.now content

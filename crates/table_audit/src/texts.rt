@@ -10,7 +10,8 @@ use itoa::Buffer;
 use meter_journal::audit::{IntervalFault, RowFault};
 use std::alloc::AllocError;
 
-// Functions that append parts of a printed line. If memory runs out, the text is incomplete.
+// Functions that append parts of a printed line to a text. If memory runs out, the text is
+// incomplete.
 
 fn append_bytes(text: &mut Vec<u8>, bytes: &[u8]) -> Result<(), AllocError>
     ensures { OnOk result (text.new.items ≡ text.old.items ++ bytes.now) }
@@ -52,7 +53,8 @@ fn table_name(table: Table) -> &'static [u8]
     }
 }
 
-/// Appends the reason why the rules for entries reject a meter entry after the earlier entries.
+/// Appends the reason for which the rules for entries reject a meter entry, given the earlier
+/// entries.
 fn write_cause(text: &mut Vec<u8>, cause: RowFault) -> Result<(), AllocError>
     ensures { OnOk result (text.new.items ≡ say.with_cause text.old.items cause) }
 {
@@ -247,8 +249,8 @@ fn append_end(text: &mut Vec<u8>, found: &Findings) -> Result<(), AllocError>
     append_bytes(text, b" differences\n")
 }
 
-/// Appends the printed text of an audit: one line for each stored difference, the number of further
-/// differences, and a last line. If memory runs out, the text is incomplete.
+/// Appends the printed text of an audit: one line for each stored discrepancy, the number of
+/// further discrepancies, and a last line. If memory runs out, the text is incomplete.
 pub fn write_findings(text: &mut Vec<u8>, found: &Findings) -> Result<(), AllocError>
     ensures { OnOk result (text.new.items ≡ say.with_findings text.old.items found.now) }
 {

@@ -1,4 +1,4 @@
--- Lemmas on the list of the meters in a database file, which is built row by row from the table
+-- Lemmas on the list of a database file's meters, a list that is built row by row from the table
 -- `installations`.
 use Rattle.std.proofs.Common.{◌≡◌, ℕ, ◌+◌, ◌<◌, List, [], ◌∷◌, ◌++◌, take, length, get_or, drop, Some, sym, ap, subst, ◌∙◌, arith}
 use Rattle.std.proofs.lemmas.List.{take_more}

@@ -13,8 +13,8 @@ use Rattle.table_seals.proofs.Opened.{void_opened, no_void_first}
 
 -- Lemmas on consecutive `void` lines in the text of a seal, which has digests of a file's records.
 
--- If the text of a seal has several `void` lines, then the text begins with the first line, and the
--- other lines follow.
+-- If a text begins with the `void` lines of several entries, its first line is that of the first
+-- entry. The other `void` lines follow.
 void_first : (meter : List ℕ) (p : ℕ) (ps rest text : List ℕ) → AreVoids meter (p ∷ ps) rest text
     → text ≡ codes "void " ++ (meter ++ 32 ∷ (decimal p ++ 10 ∷ (flat_map (void_line meter) ps ++ rest)))
 void_first meter p ps rest text h =
@@ -27,8 +27,8 @@ no_more_voids meter [] rest text none h = (refl, h.is)
 no_more_voids meter (p ∷ ps) rest text none h =
     absurd (none meter (decimal p ++ 10 ∷ (flat_map (void_line meter) ps ++ rest)) h.word (void_first meter p ps rest text h))
 
--- If a word was parsed after `void ` in a text of `void` lines, then the word is the meter's name.
--- The index of the voided (cancelled) entry follows.
+-- If a word was parsed after `void ` in a text that consists of a meter's `void` lines, then the
+-- word is the meter's name. The index of the voided (cancelled) entry follows.
 pub void_number : (meter after rest text word following : List ℕ)
     → ((w r : List ℕ) → is_word w ≡ true → text ≡ codes "void " ++ (w ++ 32 ∷ r) → (word ≡ w) × (following ≡ r))
     → text ≡ codes "void " ++ (word ++ 32 ∷ following) → AreVoids meter after rest text
@@ -64,8 +64,8 @@ next_void meter after rest text word following number follows reads is numbers h
       record { word = h.word; fit = all.1; ends = h.ends; is = two.1 },
     )
 
--- If the next index is moved from the unread indices to the parsed indices, then the concatenation
--- of both lists of indices is unchanged.
+-- If the first unread index is moved to the end of the parsed indices, then the concatenation of
+-- both lists of indices is unchanged.
 pub places_so_far : (places next after ps all : List ℕ) (number : ℕ) → next ≡ places ++ number ∷ [] → after ≡ number ∷ ps → places ++ after ≡ all
     → next ++ ps ≡ all
 places_so_far places next after ps all number put is so_far =
@@ -83,7 +83,7 @@ no_more_meters (s ∷ ss) rest text none h =
     ∙ append_assoc (meter_line s) (flat_map (void_line s.meter) s.voids) (flat_map meter_text ss ++ rest)))
 
 -- States that a parsed `meter` line has the values of the first seal (digest of a meter's entries)
--- in a list. The remaining text has the other seals.
+-- in a list. The text after the line has the other seals.
 pub record FirstMeter (after : List Sealed) (rest : List ℕ) (line : MeterLine) (following : List ℕ) : Type 0 where
   pub seal : Sealed
   pub others : List Sealed
@@ -119,7 +119,7 @@ pub seals_so_far : (seals next after ss all : List Sealed) (seal : Sealed) → n
 seals_so_far seals next after ss all seal put is so_far =
     ap (λ (xs : List Sealed). xs ++ ss) put ∙ append_assoc seals (seal ∷ []) ss ∙ ap (λ (xs : List Sealed). seals ++ xs) (sym is) ∙ so_far
 
--- Lemmas on results of parsing that may be `None`.
+-- Lemmas on results of a parser that are `Some` and have a property.
 
 pub none_some : {A : Type 0} (P : A → Type 0) (o : Option A) → o ≡ None → IsSomeAnd o P → ⊥
 none_some P o is h = subst (λ q. IsSomeAnd q P) is h

@@ -20,8 +20,8 @@ polls_opened s rest = polls_pieces (decimal s.count) (encode_lower s.digest) res
 pending_pieces : (a rest : List ℕ) → (codes "pending " ++ a ++ codes "\n") ++ rest ≡ codes "pending " ++ (a ++ 10 ∷ rest)
 pending_pieces a rest = simp append_assoc
 
--- If the text of a seal has several `pending` lines, then the text begins with the first line, and
--- the other lines follow.
+-- If a text begins with the `pending` lines of several polls, its first line is that of the first
+-- poll. The other `pending` lines follow.
 pending_first : (p : ℕ) (ps rest text : List ℕ) → ArePending (p ∷ ps) rest text
     → text ≡ codes "pending " ++ (decimal p ++ 10 ∷ (flat_map pending_line ps ++ rest))
 pending_first p ps rest text h =
@@ -53,7 +53,8 @@ pub pending_then : (s : SealedPolls) (rest text follows : List ℕ) → ArePolls
     → ArePending s.pending rest follows
 pending_then s rest text follows h is = record { fit = h.fit.pending_fit; ends = h.ends; is = is }
 
--- Lemmas on the seals (digests) of all meters, which the seal of the polls follows in the text.
+-- Lemmas on the text of a seal, in which the seals (digests) of all meters come before the seal of
+-- the polls.
 
 pub meters_first : (s : SealedTables) (rest text : List ℕ) → AreTables s rest text → AreMeters s.meters (polls_part s.polls ++ rest) text
 meters_first s rest text h = record {

@@ -144,7 +144,7 @@ without_terms row known none rows are other =
     )
 
 -- Suppose that a set has the terms (name, register, maximum power) of the first `i` rows. After the
--- terms of row `i` are added, the set has those of the first `i` + 1 rows.
+-- terms of the next row are added, the set has those of the first `i` + 1 rows.
 pub terms_of_next : (rows : List Row) (i : ℕ) (row : Row) (old new : BTreeSet Terms) → i < length rows → row ≡ get_or rows i row
     → AddsTermsOf row old new → AreTermsOf (take i rows) old → AreTermsOf (take (i + 1) rows) new
 terms_of_next rows i row old new lt is adds are =
@@ -172,8 +172,8 @@ installed_by known terms seal there is meter register ceiling installed are =
       λ any. is ∙ (are terms).1 (any_as Has Reads installed (λ row h. terms_there row _ _ _ _ _ _ h (sym meter) (sym register) (sym ceiling)) any),
     )
 
--- Lemmas on comparing a meter with its seal (a digest of its earlier entries), with the set of all
--- meters' terms.
+-- Lemmas on comparing a meter with its seal (a digest of its earlier entries): its rows match the
+-- seal, and the set of all meters' terms has the sealed terms.
 
 pub keeps_at : (known : BTreeSet Terms) (rows : MeterRows) (seal : Sealed) (there has : Bool) → ReportsInstalled known seal there
     → (IsTrue has ↔ HasSealed rows seal) → KeepsAt known rows seal (there && has)

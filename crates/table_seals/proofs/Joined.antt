@@ -24,8 +24,8 @@ lines_of_each f [] = refl
 lines_of_each f (x ∷ xs) =
     ap (λ ls. map join_line (f x) ++ ls) (lines_of_each f xs) ∙ sym (map-append join_line (f x) (flat_map f xs))
 
--- Appending the printed lines of three lists of differences, one list after another, appends the
--- lines of the concatenated list.
+-- Appending the printed lines of three lists of differences one after another has the same result
+-- as appending the printed lines of the concatenated list.
 pub all_reported : (old one two three : List (List ℕ)) (a b c : List Join) → one ≡ old ++ map join_line a → two ≡ one ++ map join_line b
     → three ≡ two ++ map join_line c → three ≡ old ++ map join_line (a ++ b ++ c)
 all_reported old one two three a b c first second third =
@@ -86,7 +86,8 @@ pub goes_to_end : (left most : ℕ) (name : List ℕ) (meters : List FiledMeter)
     → stay_within left name (drop i meters) ≡ stay_within most name meters → true ≡ stay_within most name meters
 goes_to_end left most name meters i le so_far = sym (ap (stay_within left name) (drop_all i meters le)) ∙ so_far
 
--- Lemmas that a meter continues in the next file if and only if no line reports a difference.
+-- Lemmas that a meter continues in the next file if and only if the check prints no difference for
+-- it.
 
 nothing_reported : (known : List FiledMeter) (old new : FiledMeter) (found : Option JoinFault)
     → option_to_list (option_map (λ fault. Differs fault old new) found) ≡ [] → found ≡ None

@@ -23,7 +23,7 @@ module _ (passes : FiledMeter → Bool) where
   abbrev passing : List FiledMeter → List FiledMeter
   passing meters = filter passes meters
 
-  -- If the meters that pass a test begin with `old`, then a search with this test finds `old`.
+  -- If the first meter that passes a test is `old`, then a search with this test finds `old`.
   pub first_found : (meters older : List FiledMeter) (old : FiledMeter) → passing meters ≡ old ∷ older → find passes meters ≡ Some old
   first_found [] older old h = absurd (cc)
   first_found (meter ∷ meters) older old h =
@@ -96,8 +96,8 @@ energies_stay most name (meter ∷ meters) h =
           subst (λ ms. energy_of ms ≤ most) (sym (cond-false _ _ _ off)) (energies_stay most name meters stays)
     ]
 
--- After a file with at most one meter of a given name is added, the meters of this name still
--- continue from file to file.
+-- Suppose that the meters of a given name continue from file to file. If another file has at most
+-- one meter of this name, and the check reports no difference for it, the meters still continue.
 one_more : (name : List ℕ) (known next : Known) (new old : List FiledMeter) → IsOfMeters next → joins_between known next ≡ []
     → IsOneMeter name known → named name next.meters ≡ new → named name known.meters ≡ old → length new ≤ 1
     → EachGoesOn (new ++ old) × (energy_of (new ++ old) ≤ MAX_TOTAL)

@@ -1,5 +1,5 @@
--- Lemmas on the digest of all polls in the file: the seal that the program writes over it, and the
--- comparison of the file with an earlier seal.
+-- Lemmas on the digest of all polls in a file: the seal that the program computes from it, and the
+-- comparison of the polls with an earlier seal.
 use Rattle.std.proofs.Common.{◌≡◌, ◌↔◌, ℕ, ◌≤◌, Bool, false, List, [], Option, Some, None, Result, Ok, Err, unwrap_or, IfOk, IfSome, refl, sym, ap, subst, ◌∙◌, arith}
 use Rattle.sha2.specs.Sha256.{sha256}
 use Rattle.store_tables.specs.Content.{Content}
@@ -28,7 +28,7 @@ reads_fault found e content is = subst (λ (r : Result (Option ℕ) RowFault). R
 
 -- Lemmas on the seal (digest) of the polls in the tables.
 
--- If polls were read without a fault, then they have consecutive numbers from 1.
+-- If all polls were read without an error, then they have consecutive numbers from 1.
 read_numbered : (r : Result (Option ℕ) RowFault) (content : Content) (polls : List ReadPoll) → ReadsUpTo r content (Some polls) → AreNumbered 1 polls
 read_numbered (Ok last) content polls h = numbered h.runs polls h.read
 read_numbered (Err e) content polls h = absurd (cc)
@@ -96,7 +96,8 @@ same_tables meters polls seal m p =
     ap (λ (x : List Sealed). let read : SealedTables = record { meters = x; polls = polls } in read) m
     ∙ ap (λ (x : SealedPolls). let read : SealedTables = record { meters = seal.meters; polls = x } in read) p
 
--- Lemmas on results of reading polls that may be `None`.
+-- If a function digests all polls in the tables with all their present outcomes, then its result is
+-- the seal of the polls.
 
 pub seals_found : {S : Type 0} (g : Ghosts S) (old new : Held S) (r : Result (Option PollSeal) RowFault)
     → IfOk r (λ found. IfSome found (λ seal. seal.count ≤ greatest_place)) → Finds g old new r (DigestsPolls greatest_place [])

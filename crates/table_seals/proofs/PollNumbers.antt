@@ -1,4 +1,4 @@
--- Lemmas that polls have consecutive numbers from 1 if they were read without a fault.
+-- Lemmas that polls have consecutive numbers from 1 if they were read without an error.
 use Rattle.std.proofs.Common.{◌≡◌, ℕ, suc, ◌+◌, ◌<◌, ◌≤◌, ◌==◌, Bool, true, false, nat_le, List, [], ◌∷◌, ◌++◌, length, if◌then◌else◌, Option, Some, None, Result, Ok, Err, refl, sym, ap, subst, ◌∙◌, arith}
 use Rattle.std.specs.Prelude.{⊤}
 use Rattle.std.specs.List.{fold}

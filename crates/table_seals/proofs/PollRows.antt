@@ -36,8 +36,8 @@ no_rows_yet last hidden first all outcomes old old_pending = record {
   pending = sym (append-nil old_pending);
 }
 
--- If index `i` is in a list of rows, then dropping the first `i` rows leaves row `i` and the rows
--- after it.
+-- If a list has an element at the index `i`, then dropping its first `i` rows leaves the row at
+-- this index and the later rows.
 rows_from : (rows : List Row) (i : ℕ) (row : Row) → i < length rows → row ≡ get_or rows i row → drop i rows ≡ row ∷ drop (i + 1) rows
 rows_from rows i row lt is = drop_more rows i row lt ∙ ap (λ (r : Row). r ∷ drop (i + 1) rows) (sym is)
 
@@ -83,7 +83,7 @@ module _ (last : ℕ) (hidden : List ℕ) (first next i : ℕ) (all outcomes lef
             ∙ sym (flat_map-append pending_of before.done (poll ∷ [])));
       }
 
--- Lemmas on the polls and their texts after the last row of a run of polls.
+-- Lemmas on the polls and their texts after the last row of a run of `RUN` consecutive polls.
 
 left_over : (done : List ReadPoll) (next : ℕ) (rows : List Row) → (rows ≡ [] → ⊥) → after done (polls_in next [] rows) ≡ None
 left_over done next [] none = absurd (none refl)

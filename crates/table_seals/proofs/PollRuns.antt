@@ -99,7 +99,8 @@ module _ (last : ℕ) (hidden : List ℕ) (n first : ℕ) (old new : Sha256) (ol
             one.adds.pending ∙ ap (λ (t : List ℕ). t ++ pending_among more) before.pending_are ∙ sym (flat_map-append pending_of before.polls more);
       }
 
--- If the polls of one run can't be read, then digesting all runs returns None.
+-- If the polls of one run (`RUN` consecutive numbers) can't be read, then digesting all runs
+-- returns None.
 pub run_unread : (last : ℕ) (hidden : List ℕ) (n first : ℕ) (old new : Sha256) (old_pending new_pending : List ℕ) (content : Content) (greatest : ℕ)
     (found : Option ℕ) → found ≡ None → RunsSoFar last hidden n first old old_pending content
     → LooksAtRun n last hidden first old new old_pending new_pending content found → DigestsRuns greatest last hidden content None
@@ -118,7 +119,7 @@ run_added last hidden n first old new old_pending new_pending content next found
     one_more last hidden n first old new old_pending new_pending content before next
     (subst (λ (o : Option ℕ). LooksAtRun n last hidden first old new old_pending new_pending content o) is one)
 
--- Lemmas on reading all runs of polls up to the last poll.
+-- Lemmas on reading all runs of `RUN` consecutive polls, up to the last poll.
 
 pub all_digested : (greatest last : ℕ) (hidden : List ℕ) (n next : ℕ) (hasher : Sha256) (pending : List ℕ) (content : Content) (found : PollSeal)
     → greatest ≤ n * RUN → found.count + 1 ≡ next → ((m : List ℕ) → Holds256 hasher m → found.digest ≡ sha256 m) → found.pending.items ≡ pending

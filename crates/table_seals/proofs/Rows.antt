@@ -60,8 +60,8 @@ next_reported installed content seals i seal old new lt is before one =
 pub none_reported : (installed : List Row) (content : Content) (names : List (List ℕ)) → names ≡ [] → ReportsNames installed [] content names
 none_reported installed content names none = record { kept = []; reported = tt; names_are = none }
 
--- If an index is in a list of rows, then the row at this index does not depend on the default value
--- of the lookup.
+-- If an index is less than the length of a list, then a lookup at this index returns the same row
+-- for any default value.
 pub not_this : (rows : List Row) (i : ℕ) (row x : Row) → i < length rows → row ≡ get_or rows i row → get_or rows i x ≡ x → row ≡ x
 not_this rows i row x lt is at =
     let one : Some (get_or rows i row) ≡ Some (get_or rows i x) = sym (slice_get-get_or rows i row lt) ∙ slice_get-get_or rows i x lt in

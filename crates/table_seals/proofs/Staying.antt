@@ -69,9 +69,10 @@ rolls_leave last e false sf = refl
 rolls_leave last (Step at raw rolls) true sf = refl
 rolls_leave last (Change at before new scale) true sf = refl
 
--- Lemmas on the line of an entry that a seal digests.
+-- Lemmas on the digested line of an entry, the line that is part of the text that a seal digests.
 
--- The digested line of a meter's entry, which leaves out the rollovers of a reading.
+-- The digested line of a meter's entry. For a reading, the line omits the number of counter
+-- rollovers.
 line_of : (sf : ℤ) (place : ℕ) (k : EntryKind) (e : Entry) (stands : Bool) → List ℕ
 line_of sf place k e stands = entry_line (table_row sf (record { place = place; kind = k; entry = e; stands = stands }))
 
@@ -114,7 +115,8 @@ rolled_same last row =
           subst (ReportsSame row) (sym made) (record { line = λ sf. refl; scale = λ sf. refl; place = refl; stands = refl })
     ]
 
--- Lemmas on the digested lines of entries, the latest entry first.
+-- Lemmas on the list of the digested lines of a meter's entries, which begins with the latest
+-- entry.
 
 abbrev pub lines_of : Installed → List EntryRow → List (List ℕ)
 lines_of meter rows = map entry_line (later_rows meter rows)
@@ -182,7 +184,8 @@ more_lines meter (Voided named ∷ more) lines h =
     let may = all_three around.row.stands (is_read around.row.kind around.row.entry) (is_free around.next) h.0.voidable in
     (rest.0, (void_lines meter named (rows_of meter.opening (more ++ lines)) around h.0.there may.1).lines ∙ rest.1)
 
--- Lemmas on the digested text of entries, the opening (the first entry) first.
+-- Lemmas on the digested text of a meter's entries. The text starts with the opening (the first
+-- entry).
 
 map_reverse : {A B : Type 0} (f : A → B) (xs : List A) → map f (reverse xs) ≡ reverse (map f xs)
 map_reverse f [] = refl

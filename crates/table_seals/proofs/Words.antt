@@ -64,7 +64,7 @@ hex_word (b ∷ bytes) h =
     and_is _ _ (digit_word (b / 16) (omega (arith, small)))
     (and_is _ _ (digit_word (b % 16) (omega arith)) (hex_word bytes (λ i. h (suc i))))
 
--- Lemmas on the part of a text before a separator.
+-- Lemmas on removing a prefix from a text, and on the text up to a separator.
 
 pub stripped : (before text rest : List ℕ) → StripsPrefix (FindsTextPrefix before) text rest → text ≡ before ++ rest
 stripped before text rest h = h.1.1 ∙ ap (λ t. before ++ t) (sym h.2)

@@ -15,8 +15,8 @@ use Rattle.table_seals.specs.Sealed.{Sealed, SealedTables}
 use Rattle.table_seals.specs.Tables.{HasTerms, HasRead}
 use Rattle.table_seals.specs.Texts.{entries_text}
 
--- A row of `installations` has the meter, the accounting register and the ceiling (maximum power)
--- that a seal (digests of earlier records) names.
+-- One of the rows of `installations` has the meter, the accounting register and the ceiling
+-- (maximum power) that a seal (digests of earlier records) names.
 abbrev pub IsInstalled : List Row → Sealed → Type 0
 IsInstalled installed seal =
     Any (λ row. HasTerms row seal.meter seal.register seal.ceiling) installed

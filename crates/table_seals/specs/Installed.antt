@@ -33,8 +33,8 @@ pub record AreSame (terms other : Terms) : Type 0 where
   pub register : string_bytes terms.register ≡ string_bytes other.register
   pub ceiling : terms.ceiling ≡ other.ceiling
 
--- The set `new` has exactly the terms of the set `old` and `terms`. The terms are a meter's name,
--- register and maximum power.
+-- The set `new` has exactly the elements of the set `old`, and `terms` (a meter's name, register
+-- and maximum power).
 abbrev pub AddsTerms : Terms → (old new : BTreeSet Terms) → Type 0
 AddsTerms terms old new = (other : Terms)
     → IsTrue (has_terms new other) ↔ (AreSame terms other ⊎ IsTrue (has_terms old other))
@@ -45,39 +45,43 @@ abbrev pub AreTermsOf : List Row → BTreeSet Terms → Type 0
 AreTermsOf rows known = (terms : Terms)
     → IsTrue (has_terms known terms) ↔ Any (λ row. TermsAreRead row (Some terms)) rows
 
--- Suppose that the set `old` has the terms (name, register, maximum power) of some rows. Then the
--- set `new` also has the terms of one more row of `installations`.
+-- Suppose that the set `old` has exactly the terms (name, register, maximum power) of some rows of
+-- `installations`. Then the set `new` has exactly the terms of these rows and of one more row.
 abbrev pub AddsTermsOf : Row → (old new : BTreeSet Terms) → Type 0
 AddsTermsOf row old new = (rows : List Row) → AreTermsOf rows old
     → AreTermsOf (rows ++ row ∷ []) new
 
--- `there` is true if and only if a meter is installed with the name, register and maximum power
--- that a seal states.
+-- Suppose that the set `known` has the terms (name, register, maximum power) of all installed
+-- meters. Then `there` is true if and only if a meter is installed with the terms that a seal
+-- states.
 abbrev pub ReportsInstalled : BTreeSet Terms → Sealed → (there : Bool) → Type 0
 ReportsInstalled known seal there = (installed : List Row) → AreTermsOf installed known
     → IsTrue there ↔ IsInstalled installed seal
 
--- `kept` is true if and only if a meter's rows match its seal (a digest of earlier entries), and
--- the set has the sealed terms. The terms are name, register and maximum power.
+-- Suppose that the set `known` has the terms (name, register, maximum power) of all installed
+-- meters. Then `kept` is true if and only if the tables match a meter's seal (a digest of earlier
+-- entries).
 abbrev pub KeepsAt : BTreeSet Terms → MeterRows → Sealed → (kept : Bool) → Type 0
 KeepsAt known rows seal kept = (installed : List Row) → AreTermsOf installed known
     → IsTrue kept ↔ Keeps installed rows seal
 
--- `kept` is true if and only if the tables match a meter's seal (digests of earlier records). The
--- set `known` has the terms (name, register, maximum power) of all rows of `installations`.
+-- Suppose that the set `known` has the terms (name, register, maximum power) of all rows of
+-- `installations`. Then `kept` is true if and only if the tables match a meter's seal (digests of
+-- earlier records).
 abbrev pub ReportsKeptAt : BTreeSet Terms → Sealed → Content → (kept : Bool) → Type 0
 ReportsKeptAt known seal content kept = (installed : List Row) → AreTermsOf installed known
     → ReportsKept installed seal content kept
 
--- Checking a meter appends the meter's name to a list if and only if the tables don't match its
--- seal (digests of earlier records). The set `known` has the terms (name, register, maximum power)
--- of all rows of `installations`.
+-- Suppose that the set `known` has the terms (name, register, maximum power) of all rows of
+-- `installations`. Then checking a meter appends its name to a list if and only if the tables don't
+-- match its seal (digests of earlier records).
 abbrev pub ReportsMeterAt : BTreeSet Terms → Sealed → Content → (old new : List (List ℕ)) → Type 0
 ReportsMeterAt known seal content old new = (installed : List Row) → AreTermsOf installed known
     → ReportsMeter installed seal content old new
 
--- `names` has the names of the meters that don't match their seals (digests of earlier records).
--- The set `known` has the terms (name, register, maximum power) of all rows of `installations`.
+-- Suppose that the set `known` has the terms (name, register, maximum power) of all rows of
+-- `installations`. Then `names` has the names of the meters that don't match their seals (digests
+-- of earlier records).
 abbrev pub ReportsNamesAt : BTreeSet Terms → List Sealed → Content → (names : List (List ℕ))
     → Type 0
 ReportsNamesAt known seals content names = (installed : List Row) → AreTermsOf installed known

@@ -16,8 +16,9 @@ use Rattle.table_seals.specs.declared.filed.FiledMeter.{FiledMeter}
 use Rattle.table_seals.specs.Filing.{IsFiledAs}
 use Rattle.table_seals.specs.Joins.{Known, known_with, joins_by, joins_of_all, is_meter, is_within}
 
--- The meter `old` of an earlier file continues as the meter `new` at the same accounting register
--- (an energy counter). The meter's total energy in all files is within the limit of one meter.
+-- The meter `old` of an earlier file continues as the meter `new`, which is assigned to the same
+-- accounting register (a named energy counter). The meter's total energy in all files is within the
+-- limit of one meter.
 pub record MeterGoesOn (known : List FiledMeter) (old new : FiledMeter) : Type 0 where
   pub goes_on : GoesOnAs old.installed old.standing.last old.standing.is_ended new.installed
   pub register : string_bytes new.register ≡ string_bytes old.register
@@ -59,22 +60,22 @@ pub record IsOneMeter (name : List ℕ) (known : Known) : Type 0 where
   pub goes_on : EachGoesOn (named name known.meters)
   pub energy : energy_of (named name known.meters) ≤ MAX_TOTAL
 
--- The data about all files, from the data about the first file and each later file.
+-- The data about all files, computed from the data about the first file and about each later file.
 abbrev pub known_with_all : Known → (later : List Known) → Known
 known_with_all known [] = known
 known_with_all known (next ∷ later) = known_with_all (known_with known next) later
 
--- Theorem: if the check reports no difference between successive files, then the meters of each
--- name continue from file to file. Each file must have at most one meter of each name, with an
--- energy within the limit of one meter (`IsOfMeters`).
+-- Theorem: suppose that each file has at most one meter of each name, with an energy within the
+-- limit of one meter. If the check reports no difference between successive files, then the meters
+-- of each name continue from file to file.
 abbrev pub JoinedFilesAreOne : Type 0
 JoinedFilesAreOne = (first : Known) (later : List Known) → IsOfMeters first
     → AllByRecursion IsOfMeters later
     → joins_of_all first later ≡ []
     → (name : List ℕ) → IsOneMeter name (known_with_all first later)
 
--- An audit finds no difference in a meter's tables. The last entry, the total energy and the closed
--- flag in these tables equal the meter's recorded state.
+-- An audit finds no discrepancy in a meter's tables. The last entry, the total energy and the
+-- closed flag in these tables equal the meter's recorded state.
 pub record IsReportedBy (meter : FiledMeter) (tables : Tables) : Type 0 where
   pub well : IsWellInstalled meter.installed
   pub fine : AreFine meter.installed tables
@@ -82,8 +83,8 @@ pub record IsReportedBy (meter : FiledMeter) (tables : Tables) : Type 0 where
   pub total : tables.total ≡ meter.standing.total
   pub ended : tables.ended ≡ meter.standing.is_ended
 
--- Theorem: if an audit finds a meter's rows fine, then the data read about the meter agree with its
--- tables.
+-- Theorem: if an audit finds no discrepancy in a meter's rows, then the data that were read about
+-- the meter agree with its tables.
 abbrev pub FiledMetersAreReported : Type 0
 FiledMetersAreReported = (row : Row) (rows : MeterRows) (installation : InstallationRow)
     (filed : FiledMeter) → installation_in row ≡ Ok installation
@@ -99,17 +100,17 @@ abbrev pub in_files : (tables : FiledMeter → Tables) → List FiledMeter → L
 in_files tables [] = []
 in_files tables (meter ∷ older) = in_files tables older ++ in_file tables meter ∷ []
 
--- All files of a meter together have the numbers of one lawful journal, a history that the rules
--- accept. This journal begins with the meter's opening (first entry) in the first file.
+-- States that a meter's tables in all files together match one lawful journal (a history that the
+-- rules accept). This journal begins with the meter's opening (first entry) in the first file.
 pub record HasOneJournal (tables : FiledMeter → Tables) (meters : List FiledMeter) : Type 0 where
   pub first : InFile
   pub later : List InFile
   pub are : in_files tables meters ≡ first ∷ later
   pub lawful : AreLawful first.meter (entry_from_all_rows first.tables later)
 
--- Theorem: if a meter's files continue each other, they together match one lawful journal, a
--- history that the rules accept. Each file must pass an audit, and the total energy must be within
--- the limit.
+-- Theorem: suppose that each file of a meter passes an audit and continues the file before it, and
+-- that the total energy is within the limit. Then the files together match one lawful journal (a
+-- history that the rules accept).
 abbrev pub JoinedFilesAreLawful : Type 0
 JoinedFilesAreLawful = (tables : FiledMeter → Tables) (meter : FiledMeter)
     (older : List FiledMeter) → AllByRecursion (λ m. IsReportedBy m (tables m)) (meter ∷ older)

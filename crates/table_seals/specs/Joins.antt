@@ -12,8 +12,8 @@ use Rattle.table_seals.specs.declared.join_faults.JoinFault.{JoinFault}
 use Rattle.table_seals.specs.declared.join_faults.JoinFault.TheVariants.{Closed, Register, Range, Ceiling, Opening, Energy}
 
 -- The data about one database file, or about several successive files. `file` and `zone` are the
--- name and the time zone of the latest file. `meters` begins with the `latest` meters of the latest
--- file, and the meters of earlier files follow.
+-- name and the time zone of the latest file. `meters` has the meters of the latest file first, and
+-- then those of earlier files. `latest` is the number of meters in the latest file.
 pub record Known : Type 0 where
   pub file : List ℕ
   pub zone : List ℕ
@@ -56,8 +56,9 @@ has_meter name meters = list_any (is_meter name) meters
 abbrev pub is_same : Last → Last → Bool
 is_same last other = (last.at == other.at) && (last.raw == other.raw) && int_eq last.sf other.sf
 
--- The energy that remains of the limit `most`, in mWh, after a meter's total is subtracted. A meter
--- of another name leaves the limit unchanged. None if the meter's total exceeds the limit.
+-- The energy that remains of the limit `most`, in mWh, after a meter's total energy is subtracted.
+-- A meter of another name than `name` leaves the limit unchanged. None if the total exceeds the
+-- limit.
 abbrev pub left_after : (most : ℕ) → (name : List ℕ) → FiledMeter → Option ℕ
 left_after most name meter =
     if is_meter name meter
@@ -75,9 +76,9 @@ stay_within most name (meter ∷ meters) =
 abbrev pub is_within : (known : List FiledMeter) → (new : FiledMeter) → Bool
 is_within known new = stay_within MAX_TOTAL (string_bytes new.meter) (new ∷ known)
 
--- The first rule that the continuation of a meter breaks, or None. The earlier meter must be open,
--- with the register, range and ceiling (maximum power) of the new meter. Its last entry must equal
--- the new opening (first entry), and the total energy must be within the limit.
+-- The first of six rules that the continuation of a meter breaks, or None. By these rules, the
+-- earlier meter is open, and has the register, range and ceiling (maximum power) of the new meter.
+-- Its last entry equals the new opening (first entry), and the total energy is within the limit.
 abbrev pub fault_between : (within : Bool) → (old new : FiledMeter) → Option JoinFault
 fault_between within old new =
     if old.standing.is_ended then Some Closed else
@@ -88,9 +89,9 @@ fault_between within old new =
     if not (is_same new.installed.opening old.standing.last) then Some Opening else
     if not within then Some Energy else None
 
--- Whether a new meter overlaps an earlier meter at the same accounting register (an energy
--- counter): the new meter's opening (first entry) is earlier than the last entry of the earlier
--- meter.
+-- Whether a new meter overlaps an earlier meter that is assigned to the same accounting register (a
+-- named energy counter). Meters overlap if the new meter's opening (first entry) is earlier than
+-- the last entry of the earlier meter.
 abbrev pub is_beyond : (new old : FiledMeter) → Bool
 is_beyond new old =
     bytes_eq (string_bytes old.register) (string_bytes new.register)
@@ -103,8 +104,9 @@ pub data Join : Type 0 where
   Overlaps : (old new : FiledMeter) → Join
   Missing : (old : FiledMeter) → (file : List ℕ) → Join
 
--- The differences of a meter in the next file. If an earlier file has a meter of this name, only
--- the latest such meter is compared. A new meter is compared with all other meters.
+-- The differences that the check reports for a meter in the next file. If an earlier file has a
+-- meter of this name, the meter is compared with the latest such meter. Otherwise the meter is
+-- compared with all earlier meters.
 abbrev pub joins_by : (known : List FiledMeter) → (new : FiledMeter) → Option FiledMeter
     → List Join
 joins_by known new (Some old) =
@@ -123,12 +125,13 @@ abbrev pub is_missing : (next : List FiledMeter) → (old : FiledMeter) → Bool
 is_missing next old =
     not old.standing.is_ended && not (has_meter (string_bytes old.meter) next)
 
--- The difference that a meter is open in the earlier file, but missing in the next file. The list
--- is empty for any other meter.
+-- A list with one difference if the meter `old` is open in the earlier file, but missing in the
+-- next file. Otherwise the list is empty.
 abbrev pub missing_of : (next : Known) → (old : FiledMeter) → List Join
 missing_of next old = if is_missing next.meters old then Missing old next.file ∷ [] else []
 
--- The difference between the time zones of two files, or an empty list if the time zones are equal.
+-- A list with one difference if the time zones of two files differ, or an empty list if they are
+-- equal.
 abbrev pub zone_of : (known next : Known) → List Join
 zone_of known next =
     if bytes_eq next.zone known.zone then [] else OtherZone known next ∷ []

@@ -14,7 +14,7 @@ use Rattle.table_seals.specs.declared.poll_values.PollNumbers.{PollNumbers}
 use Rattle.table_seals.specs.Tables.{is_word}
 
 -- Parses the numeric columns of a poll's row. If a column is out of its range, the result is the
--- fault for damage.
+-- error that reports a damaged file.
 abbrev pub numbers_in : Row → Result PollNumbers RowFault
 numbers_in row =
     and_then (or_damaged (whole_in 1 greatest_place (column row 0))) (λ number.
@@ -48,8 +48,8 @@ abbrev pub IsWordIn : Value → Option (Bor (List ℕ)) → Type 0
 IsWordIn v None = word_in v ≡ None
 IsWordIn v (Some word) = word_in v ≡ Some word.now
 
--- Parses an outcome from a row. If a column is out of its range, the result is the fault for
--- damage.
+-- Parses an outcome from a row. If a column is out of its range, the result is the error that
+-- reports a damaged file.
 abbrev pub ending_in : Row → Result Ending RowFault
 ending_in row =
     and_then (or_damaged (whole_in 1 greatest_place (column row 0))) (λ poll.
@@ -98,8 +98,8 @@ and_more None more = None
 and_more (Some poll) None = None
 and_more (Some poll) (Some polls) = Some (poll ∷ polls)
 
--- The polls of the rows, each with its outcome. None if a row is invalid, a number is missing, or
--- an outcome has no poll in these rows.
+-- The polls of the rows, each with its outcome. None if a row is invalid, a poll number is missing,
+-- or an outcome has no poll in these rows.
 abbrev pub polls_in : (next : ℕ) → (polls outcomes : List Row) → Option (List ReadPoll)
 polls_in next [] [] = Some []
 polls_in next [] (row ∷ rows) = None
@@ -111,13 +111,14 @@ abbrev pub after : List ReadPoll → Option (List ReadPoll) → Option (List Rea
 after polls None = None
 after polls (Some more) = Some (polls ++ more)
 
--- Appends the polls of the next run to the polls of the earlier runs. The result is None if a row
--- is invalid.
+-- Appends the polls of the next run (`RUN` consecutive numbers) to the polls of the earlier runs.
+-- The result is None if a row is invalid.
 abbrev pub with_run : Option (List ReadPoll) → RunRows → Option (List ReadPoll)
 with_run None rows = None
 with_run (Some polls) rows =
     after polls (polls_in (length polls + 1) rows.polls.items rows.outcomes.items)
 
--- The polls of consecutive runs, with consecutive numbers from 1. None if a row is invalid.
+-- The polls of consecutive runs of `RUN` polls each, with consecutive numbers from 1. None if a row
+-- is invalid.
 abbrev pub polls_of : List RunRows → Option (List ReadPoll)
 polls_of runs = fold with_run (Some []) runs

@@ -18,8 +18,8 @@ use Rattle.table_seals.specs.PollReading.{ReadPoll, polls_in, polls_of}
 use Rattle.table_seals.specs.PollTexts.{polls_text, polls_text_then, text_then, pending_of, pending_among}
 use Rattle.table_seals.specs.Sealed.{SealedPolls, sealed_polls_of}
 
--- `polls` are the polls of all runs of `RUN` numbers, up to the run of the last poll. None means
--- that a row is invalid.
+-- `polls` are the polls of all runs (`RUN` consecutive poll numbers each), up to the run of the
+-- poll `last`. None means that a row is invalid.
 pub record ReadsRuns (last : ℕ) (content : Content) (polls : Option (List ReadPoll)) : Type 0 where
   pub runs : List RunRows
   pub theirs : AreRuns content 0 runs
@@ -46,16 +46,16 @@ pub record IsSealOfPolls (polls : List ReadPoll) (sealed : SealedPolls) : Type 0
   pub digest_is : sealed.digest ≡ sha256 (polls_text polls)
   pub pending_are : sealed.pending ≡ pending_among polls
 
--- The result is the seal of the given polls, which has a digest of their text. None means that the
--- polls can't be read.
+-- The result is the seal of the given polls, with a digest of their text. None means that the polls
+-- can't be read.
 abbrev pub ArePollsSealed : Option (List ReadPoll) → Option PollSeal → Type 0
 ArePollsSealed None None = ⊤
 ArePollsSealed (Some polls) (Some seal) = IsSealOfPolls polls (sealed_polls_of seal)
 ArePollsSealed None (Some seal) = ⊥
 ArePollsSealed (Some polls) None = ⊥
 
--- The result is the seal of all polls in the tables, which has a digest of their text. None means
--- that the polls can't be read.
+-- The result is the seal of all polls in the tables, with a digest of their text. None means that
+-- the polls can't be read.
 pub record SealsPolls (content : Content) (found : Option PollSeal) : Type 0 where
   pub polls : Option (List ReadPoll)
   pub reads : ReadsPolls content polls
@@ -79,8 +79,9 @@ pub record ReportsPolls (sealed : SealedPolls) (content : Content) (differ : Boo
   pub reads : ReadsPolls content polls
   pub reported : (differ ≡ false) ↔ KeepsPolls polls sealed
 
--- The text that the poll had when it was sealed (digested) was appended. If the poll is pending
--- now, its number was appended too. False means that the poll can't be read.
+-- The result true means that the text that the poll had when it was sealed (digested) was appended
+-- to the text `old`. If the poll is pending now, its number was also appended to the list of
+-- pending polls. False means that the poll can't be read.
 abbrev pub PutsPoll : (last : ℕ) → (hidden : List ℕ) → Option ReadPoll
     → (old new old_pending new_pending : List ℕ) → Bool → Type 0
 PutsPoll last hidden poll old new old_pending new_pending false = poll ≡ None
@@ -88,8 +89,9 @@ PutsPoll last hidden poll old new old_pending new_pending true =
     (read : ReadPoll) × (poll ≡ Some read) × (new ≡ old ++ text_then last hidden read)
     × (new_pending ≡ old_pending ++ pending_of read)
 
--- The texts that a run of `RUN` polls had when they were sealed (digested) were appended. The
--- numbers of the polls pending now were appended too.
+-- The texts that a run of `RUN` polls had when they were sealed (digested) were appended to the
+-- text `old`. The numbers of the polls that are pending now were appended to the list
+-- `old_pending`.
 pub record PutsPolls (last : ℕ) (hidden : List ℕ) (first next : ℕ) (rows outcomes : List Row)
     (old new old_pending new_pending : List ℕ) : Type 0 where
   pub polls : List ReadPoll
@@ -98,8 +100,8 @@ pub record PutsPolls (last : ℕ) (hidden : List ℕ) (first next : ℕ) (rows o
   pub text : new ≡ old ++ polls_text_then last hidden polls
   pub pending : new_pending ≡ old_pending ++ pending_among polls
 
--- Appending the texts of a run of `RUN` polls returns the next poll number. None means that a row
--- is invalid.
+-- A function that appends the texts of a run of `RUN` polls returned the next poll number. None
+-- means that a row is invalid.
 abbrev pub PutsRows : (last : ℕ) → (hidden : List ℕ) → (first : ℕ) → (rows outcomes : List Row)
     → (old new old_pending new_pending : List ℕ) → Option ℕ → Type 0
 PutsRows last hidden first rows outcomes old new old_pending new_pending None =
@@ -108,7 +110,7 @@ PutsRows last hidden first rows outcomes old new old_pending new_pending (Some n
     PutsPolls last hidden first next rows outcomes old new old_pending new_pending
 
 -- The texts that a run of `RUN` polls had when they were sealed were added to a SHA-256 hasher. The
--- numbers of the polls pending now were appended to a list.
+-- numbers of the polls that are pending now were appended to a list.
 pub record AddsPolls (last : ℕ) (hidden : List ℕ) (first next : ℕ) (rows : RunRows)
     (old new : Sha256) (old_pending new_pending : List ℕ) : Type 0 where
   pub polls : List ReadPoll
@@ -117,8 +119,8 @@ pub record AddsPolls (last : ℕ) (hidden : List ℕ) (first next : ℕ) (rows :
   pub text : (m : List ℕ) → Holds256 old m → Holds256 new (m ++ polls_text_then last hidden polls)
   pub pending : new_pending ≡ old_pending ++ pending_among polls
 
--- Adding the text of a run of `RUN` polls to a SHA-256 hasher returns the next poll number. None
--- means that a row is invalid.
+-- A function that adds the texts of a run of `RUN` polls to a SHA-256 hasher returned the next poll
+-- number. None means that a row is invalid.
 abbrev pub AddsRun : (last : ℕ) → (hidden : List ℕ) → (first : ℕ) → RunRows → (old new : Sha256)
     → (old_pending new_pending : List ℕ) → Option ℕ → Type 0
 AddsRun last hidden first rows old new old_pending new_pending None =
@@ -126,8 +128,8 @@ AddsRun last hidden first rows old new old_pending new_pending None =
 AddsRun last hidden first rows old new old_pending new_pending (Some next) =
     AddsPolls last hidden first next rows old new old_pending new_pending
 
--- The polls of the run with the index `run` were read from the tables, and their text was added to
--- a SHA-256 hasher as `AddsRun` defines.
+-- The polls of the run (`RUN` consecutive numbers) with the index `run` were read from the tables.
+-- Their text was added to a SHA-256 hasher as `AddsRun` defines.
 pub record LooksAtRun (run last : ℕ) (hidden : List ℕ) (first : ℕ) (old new : Sha256)
     (old_pending new_pending : List ℕ) (content : Content) (found : Option ℕ) : Type 0 where
   pub rows : RunRows
@@ -142,7 +144,8 @@ IsDigested last hidden polls found =
     × (found.digest ≡ sha256 (polls_text_then last hidden polls))
     × (found.pending ≡ pending_among polls)
 
--- The result is the digest of the given polls. None means that the polls can't be read.
+-- The result is the digest of the given polls, as they were when sealed, with their number and the
+-- pending polls. None means that the polls can't be read.
 abbrev pub AreDigested : (last : ℕ) → (hidden : List ℕ) → Option (List ReadPoll) → Option PollSeal
     → Type 0
 AreDigested last hidden None None = ⊤
@@ -151,7 +154,7 @@ AreDigested last hidden (Some polls) (Some found) =
 AreDigested last hidden None (Some found) = ⊥
 AreDigested last hidden (Some polls) None = ⊥
 
--- The result is the digest of the polls of all runs in the tables.
+-- The result is the digest of the polls of all runs (`RUN` consecutive numbers each) in the tables.
 pub record DigestsRuns (greatest last : ℕ) (hidden : List ℕ) (content : Content)
     (found : Option PollSeal) : Type 0 where
   pub polls : Option (List ReadPoll)

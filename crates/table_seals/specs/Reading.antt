@@ -28,8 +28,8 @@ pub record ArePollsSealable (seal : SealedPolls) : Type 0 where
   pub digest_bytes : IsBytes seal.digest
   pub pending_fit : AllByRecursion (λ poll. poll < 2 ^ 64) seal.pending
 
--- A file's seal (digests of its records) can be parsed from its text. The seals of the meters and
--- of the polls can then be parsed too.
+-- A file's seal (digests of its records) can be parsed from its text: the seals of its meters and
+-- of its polls can be parsed.
 pub record AreTablesSealable (seal : SealedTables) : Type 0 where
   pub meters : AreSealable seal.meters
   pub polls : ArePollsSealable seal.polls

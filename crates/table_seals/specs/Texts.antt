@@ -21,8 +21,8 @@ kind_word Closing = codes " closing "
 kind_word Reset = codes " reset "
 kind_word Rescale = codes " rescale "
 
--- The counter rollovers of an entry that a person entered. Empty for a reading, since voiding
--- (cancelling) the previous entry changes the rollovers of a reading.
+-- The number of counter rollovers in the digested line of an entry. A reading's line omits this
+-- number, because voiding (cancelling) the previous entry changes it.
 abbrev pub own_rolls : RowKind → ℕ → List ℕ
 own_rolls Opening rolls = codes " " ++ decimal rolls
 own_rolls Reading rolls = []
@@ -104,8 +104,8 @@ abbrev pub polls_difference : (differ : Bool) → List ℕ
 polls_difference true = codes "polls differ from the seal\n"
 polls_difference false = []
 
--- The last printed line of a check that found no meter different from its seal (digests of earlier
--- records).
+-- The last printed line of a check in which all meters match the seal (digests of earlier records).
+-- The line says whether the polls match it too.
 abbrev pub rest_line : (polls_differ : Bool) → List ℕ
 rest_line true = codes "polls differ\n"
 rest_line false = codes "sealed: fine\n"

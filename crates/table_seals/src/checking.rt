@@ -60,9 +60,9 @@ fn has_sealed(alloc: Global, rows: &MeterRows, seal: &MeterSeal) -> Result<bool,
     Ok(digest.as_slice() == seal.digest.as_slice())
 }
 
-/// Returns whether a meter matches its seal, a digest of its earlier entries. The meter's terms
-/// (name, register, maximum power) must be in `known`. Its rows must have the sealed range, entries
-/// and void (cancellation) records.
+/// Returns whether a meter matches its seal, a digest of its earlier entries. It matches if its
+/// terms (name, register, maximum power) are in `known`, and its rows have the sealed range,
+/// entries and void (cancellation) records.
 fn keeps(
     alloc: Global,
     known: &BTreeSet<Terms>,
@@ -155,8 +155,8 @@ fn check_each<S: Alter>(
     Ok(differing)
 }
 
-/// Reads the terms (name, register, maximum power) of all meters. Returns the names of the meters
-/// that don't match their seals (digests of earlier entries).
+/// Returns the names of the meters that don't match their seals (digests of earlier entries). First
+/// reads the terms (name, register, maximum power) of all meters.
 fn check_meters<S: Alter>(
     alloc: Global,
     conn: &mut Connection<S>,
@@ -175,7 +175,7 @@ fn check_meters<S: Alter>(
 
 /// Checks a file's tables against a seal (digests of earlier records). Returns the names of the
 /// meters that don't match the seal, and whether the polls differ from it. Records that were added
-/// after the sealing, such as the outcome of a pending poll, are not differences.
+/// after the sealing, such as the outcome of a pending poll, don't count as differences.
 ///
 /// Memory holds all rows of `installations`. It also holds the rows and the text of one meter, or
 /// of one run of `RUN` polls, at a time.

@@ -141,8 +141,8 @@ fn file_rows<'a, S: Alter>(
 }
 
 /// Returns the meters in a file's tables, in order of their index. `file` is the name of the file
-/// in messages. Returns None if a name is no text, or if a value is invalid, which an audit
-/// reports. Memory holds all rows of `installations`, and the rows of one meter at a time.
+/// in messages. Returns None if a name is not a text or another value is invalid; an audit reports
+/// such values. Memory holds all rows of `installations`, and the rows of one meter at a time.
 pub fn filed_meters<'a, S: Alter>(
     alloc: Global,
     conn: &mut Connection<S>,

@@ -5,8 +5,8 @@
 pub enum JoinFault {
     /// The meter was already closed in the earlier file.
     Closed,
-    /// The meter was at another accounting register (a named counter of a device) in the earlier
-    /// file.
+    /// The meter was assigned to another accounting register (a named counter of a device) in the
+    /// earlier file.
     Register,
     /// The meter's counter had another range in the earlier file.
     Range,

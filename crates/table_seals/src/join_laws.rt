@@ -11,22 +11,22 @@ pub fn joined_meters_go_on()
     ensures { JoinedMetersGoOn }
 {}
 
-/// Theorem: if the check of successive files reports no difference, each meter continues from file
-/// to file, and its total energy is within the limit of one meter. Each file must have at most one
-/// meter of each name, with an energy within this limit.
+/// Theorem: suppose that each file has at most one meter of each name, with an energy within the
+/// limit of one meter. If the check of successive files reports no difference, each meter continues
+/// from file to file, and its total energy is within this limit.
 pub fn joined_files_are_one()
     ensures { JoinedFilesAreOne }
 {}
 
-/// Theorem: if an audit finds no difference in a meter's rows, the data read about the meter follow
-/// from a lawful journal, a history that the rules accept.
+/// Theorem: if an audit finds no discrepancy in a meter's rows, the data read about the meter agree
+/// with a history that the rules accept.
 pub fn kept_meters_are_reported()
     ensures { FiledMetersAreReported }
 {}
 
-/// Theorem: if a meter's files continue each other, they together match one lawful journal, a
-/// history that the rules accept. Each file must pass an audit, and the meter's total energy must
-/// be within the limit of one meter.
+/// Theorem: suppose that each file of a meter passes an audit and continues the file before it, and
+/// that the total energy is within the limit. Then the files together match one lawful journal (a
+/// history that the rules accept).
 pub fn joined_files_are_lawful()
     ensures { JoinedFilesAreLawful }
 {

@@ -21,7 +21,7 @@ fn write_counter(text: &mut Vec<u8>, last: &Last) -> Result<(), AllocError>
     write_scale(text, b" ", last.sf)
 }
 
-/// Appends the text of a value that differs between a file and the earlier file.
+/// Appends a part of a printed line: a value in a file and the different value in the earlier file.
 fn add_words(
     text: &mut Vec<u8>,
     what: &[u8],
@@ -170,8 +170,8 @@ pub(crate) fn fault_line(
     Ok(line)
 }
 
-/// Returns the line for a new meter that begins before the last entry of another meter at the same
-/// accounting register (an energy counter).
+/// Returns the line for a new meter that begins before the last entry of another meter. Both meters
+/// are assigned to the same accounting register (a named energy counter).
 pub(crate) fn overlap_line(
     alloc: Global,
     old: &FiledMeter<'_>,

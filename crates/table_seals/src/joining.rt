@@ -39,8 +39,8 @@ impl<'a> Joining<'a> {
     ghost use Rattle.table_seals.specs.Joins.{after_next, joins_after};
     ghost use Rattle.table_seals.specs.JoinTexts.{lines_of, texts_of};
 
-    /// Creates a check of files that has no files yet. The function stores the allocator, and
-    /// allocates no memory.
+    /// Creates the state of a check that has not read a file yet. The function stores the
+    /// allocator, and allocates no memory.
     pub fn new(alloc: Global) -> Joining<'a>
         ensures none { result.known ≡ None }
         ensures lines { result.lines.items ≡ [] }
@@ -52,7 +52,8 @@ impl<'a> Joining<'a> {
     }
 
     /// Adds the next file to the checked files, and appends a line for each difference from the
-    /// earlier files. If memory runs out, lines may be missing, and `known` is lost.
+    /// earlier files. If memory runs out, some lines may be missing, and the data in `known` are
+    /// lost.
     pub fn join(&mut self, alloc: Global, next: FiledOffice<'a>) -> Result<(), AllocError>
         ensures lines { OnOk result (texts_of self.new.lines.items ≡ texts_of self.old.lines.items
             ++ lines_of (joins_after (option_map known_of self.old.known) (known_of next.entry))) }

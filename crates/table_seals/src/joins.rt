@@ -40,8 +40,9 @@ fn is_same(last: &Last, other: &Last) -> bool
     last.at == other.at && last.raw == other.raw && last.sf == other.sf
 }
 
-/// Subtracts a meter's total energy from the limit `most`, both in mWh, if the meter has the name
-/// `name`. Returns None if the total exceeds the limit.
+/// Returns the energy that remains of the limit `most`, in mWh, after a meter's total energy is
+/// subtracted. A meter of another name than `name` leaves the limit unchanged. Returns None if the
+/// total exceeds the limit.
 fn left_after(most: u64, name: &str, meter: &FiledMeter<'_>) -> Option<u64>
     ensures { result ≡ joins.left_after most name.now meter.now }
 {
@@ -56,7 +57,7 @@ fn left_after(most: u64, name: &str, meter: &FiledMeter<'_>) -> Option<u64>
     }
 }
 
-/// Returns whether all meters of a name together have at most the energy `most`, in mWh.
+/// Returns whether all meters with the name `name` together have at most the energy `most`, in mWh.
 fn stay_within(most: u64, name: &str, meters: &[FiledMeter<'_>]) -> bool
     ensures { result ≡ joins.stay_within most name.now meters.now }
 {
@@ -107,9 +108,9 @@ fn fault_between(within: bool, old: &FiledMeter<'_>, new: &FiledMeter<'_>) -> Op
     None
 }
 
-/// Returns whether a new meter overlaps an earlier meter at the same accounting register (an energy
-/// counter). Then the new meter's opening (first entry) is earlier than the last entry of the
-/// earlier meter.
+/// Returns whether a new meter overlaps an earlier meter that is assigned to the same accounting
+/// register (a named energy counter). Meters overlap if the new meter's opening (first entry) is
+/// earlier than the last entry of the earlier meter.
 fn is_beyond(new: &FiledMeter<'_>, old: &FiledMeter<'_>) -> bool
     ensures { result ≡ joins.is_beyond new.now old.now }
 {
@@ -117,8 +118,9 @@ fn is_beyond(new: &FiledMeter<'_>, old: &FiledMeter<'_>) -> bool
         && new.installed.opening.at < old.standing.last.at
 }
 
-/// Returns the first known meter at a new meter's accounting register whose last entry is later
-/// than the new meter's opening (first entry).
+/// Returns the first known meter that is assigned to a new meter's accounting register (a named
+/// energy counter) and overlaps the new meter. Its last entry is later than the new meter's opening
+/// (first entry).
 fn overlapped<'m, 'a>(
     new: &FiledMeter<'_>,
     known: &'m [FiledMeter<'a>],
@@ -137,7 +139,8 @@ fn keep(lines: &mut Vec<Vec<u8>>, line: Vec<u8>) -> Result<(), AllocError>
     Ok(())
 }
 
-/// Reports a meter of the next file that does not continue the earlier meter of the same name.
+/// Appends a line for a meter of the next file if it does not continue the earlier meter of the
+/// same name.
 fn print_one_fault(
     alloc: Global,
     lines: &mut Vec<Vec<u8>>,
@@ -157,8 +160,8 @@ fn print_one_fault(
     }
 }
 
-/// Reports a new meter that begins before the last entry of another meter at the same accounting
-/// register (an energy counter).
+/// Appends a line for a new meter that begins before the last entry of another meter. Both meters
+/// are assigned to the same accounting register (a named energy counter).
 fn append_overlap(
     alloc: Global,
     lines: &mut Vec<Vec<u8>>,
@@ -177,9 +180,9 @@ fn append_overlap(
     }
 }
 
-/// Reports a meter of the next file that does not continue the earlier meter of the same name.
-/// Reports a new meter that overlaps another meter at the same accounting register (an energy
-/// counter).
+/// Appends a line if a meter of the next file does not continue the earlier meter of the same name.
+/// For a new meter, appends a line if it overlaps another meter with the same accounting register
+/// (a named energy counter).
 fn append_meter_lines(
     alloc: Global,
     lines: &mut Vec<Vec<u8>>,
@@ -201,8 +204,8 @@ fn append_meter_lines(
     }
 }
 
-/// Reports each meter of the next file that does not continue the earlier files, or that overlaps
-/// another meter.
+/// Appends a line for each meter of the next file that does not continue the earlier files, or that
+/// overlaps another meter.
 fn append_meters(
     alloc: Global,
     lines: &mut Vec<Vec<u8>>,
@@ -225,7 +228,7 @@ fn is_missing(next: &[FiledMeter<'_>], old: &FiledMeter<'_>) -> bool
     !old.standing.is_ended && !has_meter(&old.meter, next)
 }
 
-/// Reports a meter that is open in the earlier file, but missing in the next file.
+/// Appends a line for a meter if it is open in the earlier file, but missing in the next file.
 fn append_missing(
     alloc: Global,
     lines: &mut Vec<Vec<u8>>,
@@ -242,7 +245,7 @@ fn append_missing(
     keep(lines, line)
 }
 
-/// Reports each meter that is open in the earlier file, but missing in the next file.
+/// Appends a line for each meter that is open in the earlier file, but missing in the next file.
 fn append_each_missing(
     alloc: Global,
     lines: &mut Vec<Vec<u8>>,
@@ -259,7 +262,7 @@ fn append_each_missing(
     Ok(())
 }
 
-/// Reports that the time zone of the next file differs from that of the earlier file.
+/// Appends a line if the time zone of the next file differs from that of the earlier file.
 fn append_zone(
     alloc: Global,
     lines: &mut Vec<Vec<u8>>,

@@ -1,5 +1,5 @@
-//! Theorems that justify comparing a seal with a later state of the file. A seal has digests of
-//! earlier records. The contract of each function is a theorem.
+//! Theorems that justify comparing a seal (digests of earlier records) with the records of the same
+//! file at a later time. The contract of each function is a theorem.
 ghost use Rattle.table_seals.specs.Laws.{FirstEntriesStay, VoidsStay, PollsStay};
 
 /// Theorem: if lines are added to a meter's journal (its history), the earlier entries are still

@@ -59,8 +59,8 @@ fn field<'a>(text: &'a str, before: &str, end: char) -> Option<(&'a str, &'a str
     rest.split_once(end)
 }
 
-/// Parses a number between the prefix `before` and the character `end`. Returns the number, and the
-/// text after `end`.
+/// Parses a decimal number between the prefix `before` and the character `end`. Returns the number,
+/// and the text after `end`.
 fn number<'a>(text: &'a str, before: &str, end: char) -> Option<(u64, &'a str)>
     requires { end ≤ 32 }
     ensures reads { (n : ℕ) (rest : List ℕ) → n < 2 ^ 64
@@ -284,8 +284,8 @@ fn tables(alloc: Global, text: &str) -> Result<Option<Seal>, AllocError>
     Ok(Some(Seal { meters, polls }))
 }
 
-/// Parses a seal (digests of earlier records). The text must be exactly the text that `append_seal`
-/// writes for the seal.
+/// Parses a seal (digests of earlier records). Fails unless the text is exactly the text that
+/// `append_seal` writes for the seal.
 pub fn read_seal(alloc: Global, text: &str) -> Result<Seal, NoSeal>
     ensures is { IfOk result (λ seal. text.now ≡ say.seal_text (sealed_tables_of seal)) }
     ensures reads { (seal : SealedTables) → AreTablesSealable seal

@@ -17,9 +17,9 @@ use std::alloc::{AllocError, Global};
 use store_tables::{GREATEST_PLACE, RowFault, first_whole};
 use table_audit::{RUN, RunRows, last_poll, run_rows};
 
-/// Adds the text that a run of `RUN` polls had when they were sealed (digested) to a SHA-256
-/// hasher. Collects the numbers of the polls that are pending now. Returns the next poll number, or
-/// None if a row is invalid.
+/// Adds to a SHA-256 hasher the text that a run of `RUN` polls had when they were sealed
+/// (digested). Appends the numbers of the polls that are pending now to a list. Returns the next
+/// poll number, or None if a row is invalid.
 fn add_run(
     alloc: Global,
     hasher: &mut Sha256,
@@ -49,8 +49,8 @@ fn add_run(
     Ok(found)
 }
 
-/// Queries the polls of the run with the index `run`, and adds the text that they had when they
-/// were sealed to a SHA-256 hasher.
+/// Queries the polls of the run (`RUN` consecutive numbers) with the index `run`. Adds to a SHA-256
+/// hasher the text that these polls had when they were sealed.
 fn look_run<S: Alter>(
     alloc: Global,
     conn: &mut Connection<S>,
@@ -149,8 +149,8 @@ pub(crate) fn seal_polls<S: Alter>(
     digest_polls(alloc, conn, GREATEST_PLACE, &[])
 }
 
-/// Returns whether the digested polls `found` differ from a seal (an earlier digest). If the polls
-/// can't be read, `found` is None, which counts as a difference.
+/// Returns whether the polls, digested as `found`, differ from a seal (an earlier digest). If the
+/// polls can't be read, `found` is None, which counts as a difference.
 fn differ(found: &Option<PollSeal>, seal: &PollSeal) -> bool
     ensures { (result ≡ false) ↔ said.AreAsSealed found.now (sealed_polls_of seal.now) }
 {
@@ -163,8 +163,8 @@ fn differ(found: &Option<PollSeal>, seal: &PollSeal) -> bool
 }
 
 /// Returns whether the polls in the tables differ from a seal (digests of earlier records). Polls
-/// that were added later, and outcomes of polls that were pending, are not differences. Memory
-/// holds one run of `RUN` polls at a time.
+/// that were added later, and outcomes of polls that were pending, don't count as differences.
+/// Memory holds one run of `RUN` polls at a time.
 pub(crate) fn check_polls<S: Alter>(
     alloc: Global,
     conn: &mut Connection<S>,

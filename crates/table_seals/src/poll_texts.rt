@@ -60,7 +60,8 @@ fn is_named(polls: &[u64], poll: u64) -> bool
 }
 
 /// Appends the text that a poll had when it was sealed (digested). The text includes the poll's
-/// outcome unless the poll was pending then. Appends nothing for a poll after `last`.
+/// outcome unless the poll was pending then. Appends nothing if the poll's number is greater than
+/// `last`.
 fn write_then(
     text: &mut Vec<u8>,
     last: u64,
@@ -94,9 +95,9 @@ fn keep_pending(
     Ok(())
 }
 
-/// Appends the text that a row's poll had when it was sealed (digested). The poll must have the
-/// expected number. If the poll has no outcome now, appends its number to `pending`. Returns
-/// whether the row is valid.
+/// Appends the text that a row's poll had when it was sealed (digested). If the poll has no outcome
+/// now, appends its number to `pending`. Returns whether the row is valid and has the expected poll
+/// number.
 fn append_poll(
     text: &mut Vec<u8>,
     pending: &mut Vec<u64>,
@@ -138,9 +139,9 @@ fn rows_after<'a>(ending: Option<Ending>, rows: &'a [Row]) -> &'a [Row]
     }
 }
 
-/// Appends the text that a run of `RUN` polls had when they were sealed (digested). Collects the
-/// numbers of the polls pending now. Returns the next poll number. Returns None if a row is
-/// invalid, a poll number is missing, or an outcome has no poll in the run.
+/// Appends the text that a run of `RUN` polls had when they were sealed (digested). Appends the
+/// numbers of the polls that are pending now to a list. Returns the next poll number. Returns None
+/// if a row is invalid, a poll number is missing, or an outcome has no poll in the run.
 pub(crate) fn write_rows(
     text: &mut Vec<u8>,
     pending: &mut Vec<u64>,

@@ -13,7 +13,7 @@ use std::alloc::{AllocError, Global};
 use store_tables::RowFault;
 use table_audit::{MeterRows, installations, meter_rows};
 
-/// Returns the fault that reports out of memory.
+/// Returns the error that reports that memory ran out.
 pub(crate) fn memory() -> RowFault
     ensures { result ≡ RowFault.Sql want_of_memory }
 {

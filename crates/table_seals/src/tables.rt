@@ -21,7 +21,7 @@ pub(crate) struct Terms {
     pub(crate) ceiling: u64,
 }
 
-/// The parsed rows of a meter in the other tables than `installations`: counter range, void
+/// The parsed rows of a meter in the tables other than `installations`: counter range, void
 /// (cancellation) records and entries.
 #[derive(Drop)]
 pub(crate) struct ReadRows {

@@ -17,7 +17,7 @@ target_of Style = codes "/page.css"
 target_of Script = codes "/page.js"
 target_of Icon = codes "/icon.svg"
 
--- The part of the web page with this request target. Targets are compared byte by byte.
+-- The part of the web page with this request target, or None. Targets are compared byte by byte.
 abbrev pub part_of : (target : List ℕ) → Option PagePart
 part_of target = find (λ part. bytes_eq target (target_of part)) parts
 

@@ -1,5 +1,5 @@
--- Lemmas on a file rollover (a new database file in which an office's meters continue): the queries
--- of the old office, and the commands that the new office executed.
+-- Lemmas on a file rollover, in which a new database file continues the meters of an old file. The
+-- lemmas are about queries of the old file and commands to the new file.
 use Rattle.std.proofs.Common.{◌≡◌, ℕ, List, Option, Ok, Err, subst, sym}
 use Rattle.std.specs.Prelude.{Result}
 use Rattle.office_events.specs.declared.refusals.Refusal.{Refusal}
@@ -17,8 +17,9 @@ use Rattle.carried_books.specs.declared.carrying.plans.Plan.{Plan}
 use Rattle.carried_books.specs.declared.carrying.plans.Plan.TheVariants as plan
 
 module _ {N : Type 0} (old new : Ledger) (until : Option ℕ) (ledger : N → Ledger) (before after : Office N) where
-  -- If the plan for a new database file follows from the old file's records, and the new office
-  -- followed the plan, then the result satisfies `Carries`.
+  -- Suppose that the plan for a new database file follows from the old file's records, and the new
+  -- file's office (event engine) followed this plan. Then the result satisfies the contract
+  -- `Carries` of a file rollover.
   pub carries : (p : Plan) (result : Result ℕ CarryFault) → OfOld old new (λ known. IsPlan known until p) → Follows ledger p before after result
       → Carries old new until ledger before after result
   carries (plan.Ready commands meters) (Ok n) is follows = record {
@@ -42,8 +43,8 @@ module _ {N : Type 0} (old new : Ledger) (until : Option ℕ) (ledger : N → Le
     are = λ known holds clean. subst (λ (those : List ℕ). IsNotYet known until (open_meters known) those) (sym follows.0) (is known holds clean);
   }
 
-  -- If the old database file does not fail, the change to a new file leaves the old file's records
-  -- and failure counts unchanged.
+  -- If no query of the old database file fails, the change to a new file leaves the old file's
+  -- records and failure counts unchanged.
   pub asked : (p : Plan) (result : Result ℕ CarryFault) → Follows ledger p before after result → Consults old new (Ok p) → OnlyAsked old new result
   asked p (Ok n) follows reads = record { keeps = reads.keeps; failures = reads.goes.faults; clean = reads.goes.clean; zone = reads.goes.zone }
   asked p (Err (New why)) follows reads = record {
@@ -61,8 +62,8 @@ module _ {N : Type 0} (old new : Ledger) (until : Option ℕ) (ledger : N → Le
   asked (plan.Ready commands meters) (Err (Old why)) follows reads = absurd follows
   asked (plan.NotYet meter) (Err (Old why)) follows reads = absurd follows
 
--- If the old database file fails, then the change to a new file has only queried the old file, and
--- the result reports the failure.
+-- If a query of the old database file fails, then the change to a new file has only queried the old
+-- file. The result reports the failure.
 pub not_asked : (old new : Ledger) (fault : BooksFault) (why : Refusal) → why ≡ as_refusal fault → Consults {T = Plan} old new (Err fault)
     → OnlyAsked old new (Err (Old why))
 not_asked old new fault why is reads = record {

@@ -1,5 +1,6 @@
 -- A worked example of a file rollover, in which a new database file continues the meters. The old
--- office has one device, at whose register a second meter followed a first one.
+-- file has one device with one accounting register (a named counter). At this register, a second
+-- meter replaced a first one.
 use Rattle.std.proofs.Common.{◌≡◌, ℕ, pos, List, [], ◌∷◌, map, Option, Some, None, refl}
 use Rattle.std.specs.Prelude.{codes}
 use Rattle.energy_core.specs.declared.entries.Entry.TheVariants as entry
@@ -68,8 +69,8 @@ openings known until = map (opening_until known until) (open_meters known)
 at_the_last : openings facts None ≡ Some (carried 3000 60) ∷ []
 at_the_last = refl
 
--- With a reading's timestamp as its limit, the rollover to a new database file continues the meter
--- from this reading. With a limit one second earlier, it continues from the previous reading.
+-- A new database file continues the meter from a reading whose timestamp equals the given time
+-- limit. With a limit one second earlier, it continues the meter from the previous reading.
 up_to_a_reading : openings facts (Some 3000) ≡ Some (carried 3000 60) ∷ []
 up_to_a_reading = refl
 
@@ -79,8 +80,8 @@ before_a_reading = refl
 at_the_opening : openings facts (Some 2899) ≡ Some (carried 2000 7) ∷ []
 at_the_opening = refl
 
--- With a limit before the meter's opening (first entry), a new database file can't continue the
--- meter.
+-- With a time limit earlier than the meter's opening (first entry), a new database file can't
+-- continue the meter.
 not_yet : openings facts (Some 1999) ≡ None ∷ []
 not_yet = refl
 

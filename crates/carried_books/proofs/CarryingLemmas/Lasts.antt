@@ -33,7 +33,8 @@ module _ (until : Option ℕ) where
   pub last_same : (before : List MeterEntry) (e : MeterEntry) → counts until e ≡ false → last_among until (before ++ e ∷ []) ≡ last_among until before
   last_same before e is = ap latest (reverse-append before (e ∷ [])) ∙ ap (option_map shown_by) (cond-false _ _ _ is)
 
-  -- The state of a meter's counter equals the state at its last valid entry.
+  -- Lemmas: the current state of a meter's counter is its state after the meter's last valid (not
+  -- voided) entry.
 
   set_after : (last : Last) (e : Entry) → set_by e (after last e).sf ≡ after last e
   set_after last (entry.Step at raw rolls) = refl
@@ -107,8 +108,9 @@ module _ (until : Option ℕ) where
   piece_of facts None n most = none_listed (n + 1) most ∙ sym (ap (take most) (drop_all n [] (omega arith)) ∙ take_all most [] (omega arith))
   piece_of facts (Some opening) n most = piece_at facts opening n most
 
-  -- Given the last valid entry among a meter's first `n` entries, one more chunk of queried entries
-  -- yields the last valid entry so far.
+  -- Suppose that `found` is the counter state at the last valid entry among a meter's first `n`
+  -- entries. After the next chunk of entries is searched too, the result is the state at the last
+  -- valid entry so far.
   pub piece_more : (facts : List Fact) (meter : List ℕ) (n : ℕ) (piece : List MeterEntry) (found more : Option Last)
       → piece ≡ entries_from facts meter (n + 1) 65536 → found ≡ last_among until (take n (all_entries facts meter))
       → ((before : List MeterEntry) → found ≡ last_among until before → more ≡ last_among until (before ++ piece))
@@ -119,8 +121,9 @@ module _ (until : Option ℕ) where
       ∙ ap (λ (those : List MeterEntry). last_among until (take n es ++ those)) (are ∙ piece_of facts (opening_of facts meter) n 65536)
       ∙ ap (last_among until) (one_piece_more n 65536 es)
 
-  -- If a chunk of a meter's queried entries is not full, it was the last chunk, and the result is
-  -- the state at the last valid entry.
+  -- If a query for a chunk of a meter's entries returns fewer entries than requested, then the
+  -- meter has no further entries. The result is then the counter state at the meter's last valid
+  -- entry.
   pub piece_last : (facts : List Fact) (meter : List ℕ) (n : ℕ) (piece : List MeterEntry) (found more : Option Last)
       → piece ≡ entries_from facts meter (n + 1) 65536 → found ≡ last_among until (take n (all_entries facts meter))
       → ((before : List MeterEntry) → found ≡ last_among until before → more ≡ last_among until (before ++ piece))

@@ -29,7 +29,7 @@ use Rattle.carried_books.proofs.JoiningLemmas.KeptMeters.{reported_alike}
 
 -- The energy of a meter is the sum of the energies of its quarter hours.
 
--- The sum of a function over the numbers below a bound.
+-- The sum of the values of a function for all numbers below a bound.
 abbrev up_to : ℕ → (ℕ → ℕ) → ℕ
 up_to zero f = 0
 up_to (suc n) f = up_to n f + f n
@@ -50,7 +50,8 @@ up_to_none (suc n) f none =
     let both : up_to n f + f n ≡ 0 = omega (arith, below, here) in
     both
 
--- Adding `m` to a function at one number adds `m` to its sum.
+-- Suppose that the values of two functions are equal, except at one number below a bound, where the
+-- second value is greater by `m`. Then the sums of their values below the bound differ by `m`.
 up_to_more : (n : ℕ) (f g : ℕ → ℕ) (k m : ℕ) → k < n → g k ≡ f k + m → ((s : ℕ) → s ≢ k → g s ≡ f s) → up_to n g ≡ up_to n f + m
 up_to_more zero f g k m less here rest = absurd (omega (arith, less))
 up_to_more (suc n) f g k m less here rest = elim (cases_Bool (n == k)) [
@@ -93,16 +94,16 @@ elsewhere : (row : Share) (rows : List Share) (s : ℕ) → row.start ≢ s → 
 elsewhere row rows s other = ap energy_of (cond-false _ _ _ (ne_eqb row.start s other))
 
 module _ (asked : ℕ → Bool) where
-  -- The energy in mWh of the quarter hour that starts at `s`, if it is in the requested range,
-  -- otherwise 0.
+  -- The energy in mWh of the quarter hour that starts at `s`, or 0 if this quarter hour is not in
+  -- the requested range.
   abbrev of_quarter : List Share → ℕ → ℕ
   of_quarter rows s = cond (asked s) (energy_from s rows) 0
 
   abbrev those_asked : List Share → List Share
   those_asked rows = filter (λ row. asked row.start) rows
 
-  -- A number greater than the starts of all intervals in a list. It bounds the quarter hours whose
-  -- energies are added up.
+  -- A number greater than the start of each interval in a list. Sums over quarter hours add only
+  -- those that start below this number.
   abbrev bound : List Share → ℕ
   bound [] = 0
   bound (row ∷ rows) = row.start + 1 + bound rows

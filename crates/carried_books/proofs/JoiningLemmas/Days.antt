@@ -13,7 +13,8 @@ use Rattle.office_books.specs.Rows.{TakesAll}
 use Rattle.carried_books.specs.declared.joining.days.JoinedDays.{JoinedDays}
 use Rattle.carried_books.specs.Joining.Days.{AddsRow, AddsUp, AddUp, AreOutOfTurn, HasNumber, TakesShare}
 
--- An energy interval that starts before the latest one is out of order.
+-- Lemmas: an energy interval is out of order if it starts before the latest start among the
+-- intervals that were added earlier.
 
 behind_latest : (rows : List Share) (latest : Option ℕ) (row : Share) → IsLatest rows latest → row.start < unwrap_or latest 0
     → (earlier : ℕ) × Contains (starts_of rows) earlier × (row.start < earlier)
@@ -26,8 +27,8 @@ pub behind : (zone : Zone) (rows : List Share) (fold : FoldState) (latest : Opti
 behind zone rows fold latest row same taken bound is less =
     behind_latest rows latest row (subst (IsLatest rows) same taken.latest) (subst (λ n. row.start < n) is less)
 
--- If the energy of all intervals in a list fits in 128 bits, then the energy of the first ones fits
--- in 128 bits too.
+-- If the total energy of a list of intervals fits in 128 bits, then that of each initial part of
+-- the list fits too.
 pub first_has : (done rest : List Share) → HasNumber (done ++ rest) → HasNumber done
 first_has done rest fits =
     let both : energy_of (done ++ rest) ≡ energy_of done + energy_of rest = sum_by-append (λ (r : Share). r.mwh) done rest in

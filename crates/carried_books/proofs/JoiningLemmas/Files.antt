@@ -20,8 +20,8 @@ use Rattle.carried_books.specs.declared.joining.files.Unjoined.TheVariants as un
 use Rattle.carried_books.specs.declared.joining.days.JoinedDays.{JoinedDays}
 use Rattle.carried_books.proofs.JoiningLemmas.Days.{add_all, first_has, same_zone}
 
--- If a database file records a register (a named counter), then each later file of the office
--- records it.
+-- Suppose that the next file records a register (a named counter) if an earlier file does. Then the
+-- next file records the register if and only if at least one file, including the next one, does.
 
 pub is_in_both : (here before : Bool) → (before ≡ true → here ≡ true) → here ≡ (here || before)
 is_in_both true before stays = refl

@@ -69,8 +69,8 @@ module _ (zone : Zone) (range : DayRange) (facts : List Fact) (meter : List ℕ)
       ∙ ap (take 65536) (ap (λ c. drop c (all_entries facts meter)) (sym both) ∙ sym (drop-drop n k (all_entries facts meter))
       ∙ ap (drop n) (sym (own_of goes_on (all_entries facts meter))))
 
-  -- True if the tally `now` has the entries of the tally `old` and the first `n` entries of the
-  -- meter that no earlier database file has.
+  -- States that the tally `now` counts all entries that the tally `old` counts. In addition, `now`
+  -- counts the first `n` of those entries of the meter that no earlier database file has.
   abbrev pub HasTallied : (n : ℕ) → (old now : EntryTally) → Type 0
   HasTallied n old now = TalliesOn zone range (take n its_own) old now
 
@@ -181,8 +181,8 @@ kept_alike : {a b : KeptMeter} → a.stands ≡ b.stands → a.reported ≡ b.re
 kept_alike stands reported = λ i. record { stands = stands i; reported = reported i }
 
 module _ (zone : Zone) (range : DayRange) (facts : List Fact) (row : Installation) where
-  -- If a meter continues in the next database file, then its collected data are those of the meter
-  -- over all files.
+  -- If a meter continues in the next database file, adding its data in this file gives its
+  -- collected data over all files.
   pub reports_both : (old new : KeptMeter) (part : MeterStatement) (m : MeterOver) → old ≡ kept_of zone range m → new ≡ with_part old row part
       → ReportsPart zone range row.opening.meter true facts old.reported.entries part → new ≡ kept_of zone range (both_of m (meter_in facts row))
   reports_both old new part m reported is more =
@@ -192,8 +192,8 @@ module _ (zone : Zone) (range : DayRange) (facts : List Fact) (row : Installatio
       let held = ap (both_held (held_within zone range m.holds)) more.held ∙ sym (held_both zone range m.holds (holds_of facts row.opening.meter)) in
       is ∙ ap (λ (k : KeptMeter). with_part k row part) reported ∙ kept_alike refl (reported_alike refl entries mwh held)
 
-  -- If a meter begins in the next database file, then its collected data are those of the meter in
-  -- this file.
+  -- If a meter begins in the next database file, then its data in this file are the collected data
+  -- of the meter over all files.
   pub reports_first : (new : KeptMeter) (none : EntryTally) → none ≡ tally_of zone range [] → new.stands ≡ row
       → ReportsPart zone range row.opening.meter false facts none new.reported → new ≡ kept_of zone range (meter_in facts row)
   reports_first new none is stands more = kept_alike stands (reported_alike more.meter_is (more.entries [] is) more.energy more.held)

@@ -70,7 +70,7 @@ one_apart known row stands is =
     (found.0, not_true _ found.1)
 
 -- If a meter in a later database file does not continue the last earlier meter, then it follows all
--- earlier meters, or does neither.
+-- earlier meters, or conflicts with one.
 pub next_or_apart : (known : List Installation) (row : Installation) (after : List Installation) (apart : Option Apart) → NoneGoesOn known row
     → AddsNext known row after apart → AddsOrIsApart known row after apart
 next_or_apart known row after None other adds = inr adds

@@ -113,8 +113,8 @@ not_listed f None before after why (inl is) = inl (ap Err is.0, is.1)
 not_listed f None before after why (inr fails) = inr fails
 not_listed f (Some x) before after why fails = inr fails
 
--- If further energy intervals are added to a copy of an earlier sum, then the result is the sum of
--- all intervals, or a failure.
+-- Adding the intervals `more` to a copy of the sum of the intervals `rows` gives the sum of `rows`
+-- and `more`, or a failure.
 days_on : (zone : Zone) (rows more : List Share) (earlier : EarlierDays) (copy after : JoinedDays) → GoesOnFrom zone earlier copy → AreSumOf zone rows earlier
     → HasNumber (rows ++ more) → TakesAll TakesShare copy more after → AddUp after.fault zone (rows ++ more) after.fold
 days_on zone rows more earlier copy after is added fits took =
@@ -242,8 +242,8 @@ module _ {B : Type 0} (ledger : B → Ledger) where
         whole = tt;
       }
 
-  -- If an energy interval is out of order although all queries of the database succeeded, then the
-  -- request for the daily energies is refused.
+  -- Suppose that all queries of the database succeeded. Then a refusal because an energy interval
+  -- is out of order satisfies the contract `OnlyAsks`.
   out_of_turn : {T : Type 0} (a b : Office B) → (is_stopped a ≡ true → ⊥) → Keeps ledger a b → OnlyAsks {T = T} ledger a b (Err (refusal.Store store.NoDay))
   out_of_turn a b goes kept = record {
     stands = kept.stands;

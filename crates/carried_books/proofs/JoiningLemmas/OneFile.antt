@@ -28,7 +28,8 @@ all_turned P [] all = all
 all_turned P (x ∷ xs) all =
     subst (All P) (sym (reverse_cons x xs)) (All-push P (reverse xs) x (all_turned P xs (All-tail P x xs all)) (All-head P x xs all))
 
--- If a function receives items in order, then it receives the last item after all earlier items.
+-- Suppose that a list of items is processed in order. Then the earlier items lead to some state,
+-- and the last item leads from this state to the final state.
 pub takes_last : {S T : Type 0} (takes : S → T → S → Type 0) (before after : S) (rows : List T) (row : T) → TakesAll takes before (rows ++ row ∷ []) after
     → (mid : S) × TakesAll takes before rows mid × takes mid row after
 takes_last takes before after [] row took = (before, refl, subst (takes before row) (sym took.2) took.1)

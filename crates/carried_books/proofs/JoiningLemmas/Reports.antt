@@ -84,8 +84,8 @@ same_text : (form : ReportForm) (days : List DayTotal) → report_text form (day
 same_text form days =
     ap (λ (those : List DayTotal). rows_text form (map shown (rows_by form.period those))) (twice (λ total. is_in form.range total.day) days)
 
--- If a report is computed only from the energy intervals around its range of days, it has the same
--- days as a report from all intervals.
+-- Suppose that a report uses only the energy intervals in a time span that contains its range of
+-- days. Then the report has the same text as a report from all intervals.
 pub report_over : (zone : Zone) (register : List ℕ) (files : List (List Fact)) (form : ReportForm) (days : List DayTotal) → AccountsAreOne
     → AreAccounts zone (rows_within (span_of form.range) (rows_over register files)) (map account_of days)
     → IsReportOver zone register files form (report_text form days)
@@ -137,7 +137,7 @@ is_over zone register files form joined days one has fits are =
     let totals = subst (λ (accounts : List DayAccount). AreAccounts zone (rows_over_within span register files) accounts) (sym are) taken.accounts in
     report_over zone register files form days one (subst (λ (those : List Share). AreAccounts zone those (map account_of days)) same totals)
 
--- Writing the days of a report never replaces the writer of its output.
+-- After the days of a report were written, the report still writes to the same output as before.
 pub taken_by : {W : Type 0} (contents : W → Option (List ℕ)) (days : List DayTotal) (from to : ReportRows W) → TakesAll (TakesDay contents) from days to
     → to.output.ghost_name ≡ from.output.ghost_name
 taken_by {W} contents [] from to took = ap (λ (rows : ReportRows W). rows.output.ghost_name) took

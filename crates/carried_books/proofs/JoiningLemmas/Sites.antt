@@ -1,5 +1,5 @@
--- The theorem that the latest meter reported for a register (a named counter) is its last meter in
--- all database files of an office.
+-- The theorem that the meter reported as the latest meter of a register (a named counter) is the
+-- register's last meter in all database files.
 use Rattle.std.proofs.Common.{◌≡◌, ℕ, ◌-◌, Bool, true, false, suc, List, [], ◌∷◌, ◌++◌, map, reverse, length, Option, Some, None, inl, inr, refl, sym, ap, subst, ◌∙◌, arith}
 use Rattle.std.specs.Prelude.{◌⊎◌, ◌≢◌, ◌&&◌, not, All, filter}
 use Rattle.std.specs.List.{AllPairs, find, slice_get}
@@ -68,8 +68,8 @@ not_left : (ended a b : Bool) → (ended && a) ≡ true → (not ended && b) ≡
 not_left true a b is = refl
 not_left false a b is = absurd (cc is)
 
--- If the current file's meter does not continue the meter that the earlier database files left
--- open, then the current file's meter is the latest.
+-- The current file's meter is reported as the latest if it does not continue the meter that the
+-- earlier database files left open.
 reported_as_new : (known : List Installation) (row : Installation)
     → ((front : List Installation) (stands : Installation) → known ≡ front ++ stands ∷ [] → is_left stands row ≡ false)
     → option_map meter_of (latest_meter known (Some row)) ≡ Some row
@@ -129,7 +129,8 @@ comes_last mid row all ends (inl is) =
 comes_last mid row all ends (inr is) = ap last_of is.after_is ∙ last_pushed mid row
 
 -- Suppose that the first meter of the current database file was added to the meters of the earlier
--- files. Then a later meter with another name does not continue the last of these meters.
+-- files. Then no meter of the current file with another name continues the last meter of the
+-- earlier files.
 first_between : (known : List Installation) (first row : Installation) (next : List Installation) → row.opening.meter ≢ first.opening.meter
     → AddsMeter known first next → (front : List Installation) (stands : Installation) → known ≡ front ++ stands ∷ [] → is_left stands row ≡ false
 first_between known first row next other (inl is) front stands at =

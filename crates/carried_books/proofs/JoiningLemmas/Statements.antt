@@ -51,8 +51,8 @@ module _ (zone : Zone) (range : DayRange) where
         | inr isnt ↦ ap (map reported_of) (cond-false _ _ _ isnt) ∙ rest ∙ sym (ap (map (statement_over zone range)) (cond-false _ _ _ isnt))
       ]
 
-  -- If the last collected meter is `one`, then `one` has the data of the last of the corresponding
-  -- meters.
+  -- If the last element of the collected data is `one`, then `one` has the collected data of the
+  -- last meter.
   pub reported_last : (kept : List KeptMeter) (one : KeptMeter) (meters : List MeterOver) → AreReported zone range (kept ++ one ∷ []) meters
       → (before : List MeterOver) × (m : MeterOver) × (meters ≡ before ++ m ∷ []) × AreReported zone range kept before × (one ≡ kept_of zone range m)
   reported_last [] one [] reported = absurd (cc reported)
@@ -136,8 +136,8 @@ module _ (zone : Zone) (range : DayRange) where
       → rows_of_those zone range kept ≡ statements_over zone range meters
   rows_reported kept meters reported = ap (rows_of_those zone range) reported ∙ rows_of_meters meters
 
-  -- The statements (reports) of two appended lists of meters are those of the first list, followed
-  -- by those of the second.
+  -- The statements (reports) of the meters in two concatenated lists are those of the first list,
+  -- followed by those of the second list.
   pub rows_both : (kept more : List KeptMeter) → rows_of_those zone range (kept ++ more) ≡ rows_of_those zone range kept ++ rows_of_those zone range more
   rows_both kept more =
       let there : KeptMeter → Bool = λ one. was_installed zone range one.stands in
@@ -159,14 +159,14 @@ find_stands row (one ∷ kept) = elim (cases_Bool (not (is_before one.stands row
   | inr isnt ↦ ap (option_map stands_of) (cond-false _ _ _ isnt) ∙ find_stands row kept ∙ sym (cond-false _ _ _ isnt)
 ]
 
--- If a search for a meter that was not closed before the meter `row` began finds a meter, then this
--- meter is in the list.
+-- Suppose that a list is searched for a meter that is not before the meter `row` (`is_before`). A
+-- meter that the search finds is in the list, and is not before `row`.
 pub stands_apart : (row stands : Installation) (kept : List KeptMeter) → option_map stands_of (find (λ one. not (is_before one.stands row)) kept) ≡ Some stands
     → Contains (map stands_of kept) stands × (is_before stands row ≡ false)
 stands_apart row stands kept is = one_apart (map stands_of kept) row stands (sym (find_stands row kept) ∙ is)
 
--- If a search for a meter that was not closed before the meter `row` began finds none, then all
--- meters were closed before `row` began.
+-- Suppose that a list is searched for a meter that is not before the meter `row` (`is_before`). If
+-- the search finds none, then all meters of the list are before `row`.
 pub stand_earlier : (row : Installation) (kept : List KeptMeter) → option_map stands_of (find (λ one. not (is_before one.stands row)) kept) ≡ None
     → All (λ stands. is_before stands row ≡ true) (map stands_of kept)
 stand_earlier row kept is = all_before (map stands_of kept) row (sym (find_stands row kept) ∙ is)
@@ -176,14 +176,14 @@ stand_more : (kept : List KeptMeter) (one : KeptMeter) (all : List KeptMeter) (s
 stand_more kept one all stands are is =
     ap (map stands_of) are ∙ map-append stands_of kept (one ∷ []) ∙ ap (λ (those : Installation). map stands_of kept ++ those ∷ []) is
 
--- If all collected meters were closed before the meter `row` began, then appending `row` satisfies
--- `IsNext`.
+-- If all meters of a list are before the meter `row` (`is_before`), then appending `row` to the
+-- list adds `row` as the next meter (`IsNext`).
 pub stands_next : (row : Installation) (new : KeptMeter) (old after : List KeptMeter) → All (λ stands. is_before stands row ≡ true) (map stands_of old)
     → after ≡ old ++ new ∷ [] → new.stands ≡ row → IsNext (map stands_of old) row (map stands_of after)
 stands_next row new old after earlier are is = record { earlier = earlier; after_is = stand_more old new after row are is }
 
--- If the meter `row` continues the last collected meter, then replacing that meter by the meter
--- over all database files satisfies `AddsMeter`.
+-- If the meter `row` continues the last collected meter, and one meter over all database files
+-- replaces both, then `row` was added correctly (`AddsMeter`).
 pub stands_on : (row : Installation) (last new : KeptMeter) (kept old after : List KeptMeter) → old ≡ kept ++ last ∷ [] → GoesOn last.stands row
     → after ≡ kept ++ new ∷ [] → new.stands ≡ as_one last.stands row → AddsMeter (map stands_of old) row (map stands_of after)
 stands_on row last new kept old after old_is goes after_is is = inl (record {
@@ -215,8 +215,8 @@ stands_first row old mid after apart old_is mid_is adds =
     next_or_apart (map stands_of old) row (map stands_of after) apart (inl (ap (map stands_of) (nothing_before old mid old_is mid_is)))
     (subst (λ (those : List KeptMeter). AddsNext (map stands_of those) row (map stands_of after) apart) (sym (old_is ∙ append-nil mid)) adds)
 
--- If two lists of collected meter data are equal and `ReportsAll` holds for one of them, then it
--- holds for the other.
+-- If two lists of collected meter data are equal, then the contract `ReportsAll` for one list
+-- implies this contract for the other.
 pub reported_from : (zone : Zone) (range : DayRange) (facts : List Fact) (listed : List Installation) (old mid new : List KeptMeter) (apart : Option Apart)
     → old ≡ mid → ReportsAll zone range facts listed mid new apart → ReportsAll zone range facts listed old new apart
 reported_from zone range facts listed old mid new apart same reports =
@@ -233,8 +233,8 @@ added_listed zone range facts listed shown old new (Ok apart) same joins reports
 )
 added_listed zone range facts listed shown old new (Err why) same joins reports = tt
 
--- If two meters conflict, then `ReportsAll` is trivially true, because it only describes added
--- meters.
+-- If adding a file's meters returns two conflicting meters, then the contract `ReportsAll` is
+-- trivially true. This contract states something only for the result `None` (no conflict).
 pub reported_apart : (zone : Zone) (range : DayRange) (facts : List Fact) (listed : List Installation) (old new : List KeptMeter) (apart : Option Apart)
     → is_some apart ≡ true → ReportsAll zone range facts listed old new apart
 reported_apart zone range facts listed old new None is = absurd (cc is)

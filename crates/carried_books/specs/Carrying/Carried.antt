@@ -19,8 +19,8 @@ use Rattle.carried_books.specs.declared.carrying.plans.Plan.{Plan}
 use Rattle.carried_books.specs.declared.carrying.plans.Plan.TheVariants as plan
 use Rattle.carried_books.specs.declared.carrying.plans.Plan.TheVariants.{Ready}
 
--- True if `says` holds for the records of the old database file. The file must not have returned a
--- wrong result.
+-- States that, if the old database file has returned no wrong result, then the property `says`
+-- holds for the records of this file.
 abbrev pub OfOld : (old new : Ledger) → (List Fact → Type 0) → Type 0
 OfOld old new says = (known : List Fact) → old.holds known → new.is_clean → says known
 
@@ -32,8 +32,8 @@ pub record IsCarried {N : Type 0} (old new : Ledger) (until : Option ℕ) (ledge
   pub are : OfOld old new (λ known. AreCarried known until commands meters)
   pub fed : After ledger before after (λ past. AreFed ledger past commands before after)
 
--- The office of a new database file refused one of the commands that set it up, and is in the state
--- after the earlier commands.
+-- The office (event engine) of a new database file refused one of the commands that set up the
+-- file. The office is in the state after the commands before the refused one.
 pub record IsBrokenOff {N : Type 0} (old new : Ledger) (until : Option ℕ) (ledger : N → Ledger)
     (before after : Office N) (why : Refusal) : Type 0 where
   pub commands : List TimedCommand
@@ -41,8 +41,8 @@ pub record IsBrokenOff {N : Type 0} (old new : Ledger) (until : Option ℕ) (led
   pub are : OfOld old new (λ known. AreCarried known until commands meters)
   pub fed : After ledger before after (λ past. AreFedUpTo ledger past commands before after why)
 
--- True if an open meter of the old database file has no valid (not voided) entry up to `until`. The
--- new file can't continue this meter, and received no command.
+-- An open meter of the old database file has no valid (not voided) entry up to the timestamp
+-- `until`. A new file can't continue this meter, and received no command.
 pub record WaitsFor {N : Type 0} (old new : Ledger) (until : Option ℕ) (before after : Office N)
     (meter : List ℕ) : Type 0 where
   pub none : after ≡ before
@@ -50,8 +50,8 @@ pub record WaitsFor {N : Type 0} (old new : Ledger) (until : Option ℕ) (before
 
 -- The result of a file rollover, the change to a new database file.
 --
--- A success has the number of installed meters. A fault is a command that the new file's office
--- refused, an open meter without a valid entry, or a failure of the old database or memory. In the
+-- A success has the number of installed meters. A fault is one of three: the new file's office
+-- refused a command, an open meter has no valid entry, or the old database or memory failed. In the
 -- last two cases, the new office received no command.
 abbrev pub Carries : {N : Type 0} → (old new : Ledger) → (until : Option ℕ) → (N → Ledger)
     → (before after : Office N) → Result ℕ CarryFault → Type 0
@@ -63,10 +63,10 @@ Carries old new until ledger before after (Err (NotYet meter)) =
     WaitsFor old new until before after meter
 Carries old new until ledger before after (Err (Old why)) = after ≡ before
 
--- The new office followed the plan of a file rollover (the change to a new database file): it
--- executed all commands of the plan, or refused a command.
+-- The new file's office (event engine) followed the plan of a file rollover: it executed all
+-- commands of the plan, or refused a command.
 --
--- If the plan names a meter that has no entry to continue from, the office was given no command.
+-- If the plan names a meter that has no entry to continue from, the office received no command.
 abbrev pub Follows : {N : Type 0} → (N → Ledger) → Plan → (before after : Office N)
     → Result ℕ CarryFault → Type 0
 Follows ledger (Ready commands meters) before after (Ok n) =
@@ -93,8 +93,8 @@ ReportsFailures before after (Err (New why)) = after ≡ before
 ReportsFailures before after (Err (NotYet meter)) = after ≡ before
 ReportsFailures before after (Err (Old why)) = FailedBy before after why
 
--- The old database file was only queried: its records, its time zone and its state after a crash
--- are unchanged.
+-- The old database file was only queried: its records, its time zone and the records that a crash
+-- may leave are unchanged.
 pub record OnlyAsked (old new : Ledger) (result : Result ℕ CarryFault) : Type 0 where
   pub keeps : KeepsFacts old new
   pub failures : ReportsFailures old.failures new.failures result

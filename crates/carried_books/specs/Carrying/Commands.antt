@@ -102,7 +102,7 @@ set_up_devices at facts devices = flat_map (set_up_device at facts) devices
 abbrev pub install : Opening → TimedCommand
 install opening = timed opening.at (install_command opening)
 
--- The timestamp at which the new database file sets up its devices: that of the first meter's
+-- The timestamp at which devices are set up in the new database file: that of the first meter's
 -- opening, or the latest recorded timestamp if no meter is installed.
 abbrev pub first_moment : List Fact → List Opening → ℕ
 first_moment facts [] = latest_in facts

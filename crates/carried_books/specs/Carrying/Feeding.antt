@@ -15,7 +15,7 @@ use Rattle.carried_books.specs.declared.carrying.commands.TimedCommand.{TimedCom
 abbrev pub event_of : TimedCommand → Event
 event_of timed = event.Command timed.command
 
--- The command as an event that the office, which executes commands, accepted at the command's
+-- The accepted event of a command: the office (event engine) accepted the command at the command's
 -- timestamp.
 abbrev pub accepted : TimedCommand → Accepted
 accepted timed = Fed timed.at (event_of timed)
@@ -40,8 +40,8 @@ pub record IsRefused {B : Type 0} (ledger : B → Ledger) (past : History) (time
   pub answer : IsAnswer past timed.at (event_of timed)
       (failures_of ledger old) (failures_of ledger new) (Err why)
 
--- The office (event engine) executed the first commands in `commands`, and refused the next
--- command. No further command was given.
+-- The office (event engine) executed the first commands in `commands`, refused the next command,
+-- and received no further command.
 pub record AreFedUpTo {B : Type 0} (ledger : B → Ledger) (past : History)
     (commands : List TimedCommand) (old new : Office B) (why : Refusal) : Type 0 where
   pub given : List TimedCommand
@@ -78,8 +78,8 @@ abbrev pub Feeds : {B : Type 0} → (B → Ledger) → List TimedCommand → (ol
 Feeds ledger commands old new result =
     After ledger old new (λ past. AreFedOr ledger past commands old new result)
 
--- If no wrong result of the database was used up to the end of a call, then none was used before
--- the call. The database's time zone is unchanged in any case.
+-- If the database returned no wrong result up to the end of a call, then the database returned none
+-- before the call. The call leaves the database's time zone unchanged in any case.
 pub record Passes {B : Type 0} (ledger : B → Ledger) (old new : Office B) : Type 0 where
   pub clean : (ledger (books_in new)).is_clean → (ledger (books_in old)).is_clean
   pub zone : (ledger (books_in new)).zone ≡ (ledger (books_in old)).zone

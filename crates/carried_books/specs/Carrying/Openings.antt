@@ -15,25 +15,28 @@ use Rattle.carried_books.specs.Carrying.Standings.{last_until}
 use Rattle.carried_books.specs.declared.carrying.openings.Openings.{Openings}
 use Rattle.carried_books.specs.declared.carrying.openings.Openings.TheVariants.{All, NotYet}
 
--- The open meter at an accounting register (a named counter); empty if the register has no open
--- meter.
+-- A list with the open meter that is assigned to an accounting register (a named counter). The list
+-- is empty if the register has no open meter.
 abbrev pub open_at_register : List Fact → Register → List Installation
 open_at_register facts register = option_to_list (open_at facts register.name)
 
--- The open meters at several accounting registers (named counters), in the order of the registers.
+-- The open meters that are assigned to several accounting registers (named counters), in the order
+-- of the registers.
 abbrev pub open_at_registers : List Fact → List Register → List Installation
 open_at_registers facts registers = flat_map (open_at_register facts) registers
 
--- The open meters at a device's accounting registers (named counters).
+-- The open meters that are assigned to a device's accounting registers (named counters).
 abbrev pub open_at_device : List Fact → Device → List Installation
 open_at_device facts device = open_at_registers facts (registers_of facts device.name)
 
--- The open meters at the accounting registers (named counters) of several devices.
+-- The open meters that are assigned to the accounting registers (named counters) of several
+-- devices.
 abbrev pub open_at_devices : List Fact → List Device → List Installation
 open_at_devices facts devices = flat_map (open_at_device facts) devices
 
--- The opening (first entry) of a meter in the new database file. It has the register (a named
--- counter), range and ceiling of the old opening, and the counter's state of `last`.
+-- The opening (first entry) of a meter in the new database file. Its register (a named counter),
+-- counter range and ceiling (maximum power) are those of the old opening. Its counter state is
+-- `last`.
 abbrev pub opened_at : Opening → Last → Opening
 opened_at opening last = record opening { at = last.at; raw = last.raw; sf = last.sf }
 
@@ -58,8 +61,8 @@ pub record IsNotYet (facts : List Fact) (until : Option ℕ) (rows : List Instal
   pub name : row.opening.meter ≡ meter
   pub none : opening_until facts until row ≡ None
 
--- The result has the openings (first entries) of all meters in `rows`. Otherwise it names a meter
--- that has no valid (not voided) entry up to `until`.
+-- States that the result has the openings (first entries) of all meters in `rows`, or names a meter
+-- without a valid entry up to `until`.
 abbrev pub AreOpened : List Fact → (until : Option ℕ) → List Installation → Openings → Type 0
 AreOpened facts until rows (All openings) = AreOpeningsOf facts until rows openings.items
 AreOpened facts until rows (NotYet meter) = IsNotYet facts until rows meter

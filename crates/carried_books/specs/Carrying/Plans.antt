@@ -1,5 +1,5 @@
 -- The plan of a file rollover (the change to a new database file): the commands that set up the new
--- office, or the reason why there are none.
+-- file, or the reason why there are none.
 use Rattle.std.specs.Prelude.{◌≡◌, ℕ, ◌≤◌, List, length, reverse, Option}
 use Rattle.std.specs.List.{AllPairs}
 use Rattle.std.specs.List.Sorted.{IsPermutation}
@@ -18,8 +18,8 @@ use Rattle.carried_books.specs.declared.carrying.plans.Plan.TheVariants.{Ready, 
 abbrev pub devices_of : List Fact → List Device
 devices_of facts = reverse (devices_in facts)
 
--- The open (not closed) meters at the accounting registers (named counters) of all devices of an
--- old database file. A new database file continues these meters.
+-- The open (not closed) meters that are assigned to the accounting registers (named counters) of
+-- all devices of an old database file. A new database file continues these meters.
 abbrev pub open_meters : List Fact → List Installation
 open_meters facts = open_at_devices facts (devices_of facts)
 

@@ -12,14 +12,14 @@ use Rattle.carried_books.specs.declared.joining.days.EarlierDays.{EarlierDays}
 use Rattle.carried_books.specs.declared.joining.days.JoinedDays.{JoinedDays}
 
 -- True if the interval `row` starts before one of the intervals in `rows`, or after the largest
--- supported timestamp. `row` can't be added to their sum by day.
+-- supported timestamp. Then `row` can't be added to the sum of `rows` by day.
 abbrev pub IsOutOfTurn : List Share → Share → Type 0
 IsOutOfTurn rows row =
     ((earlier : ℕ) × Contains (starts_of rows) earlier × (row.start < earlier))
     ⊎ (LAST_MOMENT < row.start)
 
--- True if one of the intervals in `rows` starts before an earlier interval of the list, or after
--- the largest supported timestamp.
+-- True if one of the intervals in `rows` starts before an interval that precedes it in the list, or
+-- after the largest supported timestamp.
 pub record AreOutOfTurn (rows : List Share) : Type 0 where
   pub before : List Share
   pub row : Share
@@ -31,27 +31,28 @@ pub record AreOutOfTurn (rows : List Share) : Type 0 where
 abbrev pub HasNumber : List Share → Type 0
 HasNumber rows = energy_of rows < 2 ^ 128
 
--- States that the energy intervals are added up by civil day, or the sum has failed: an interval
--- was out of order, or memory ran out.
+-- States that the energy intervals in `rows` were added up by civil day, or that the sum failed. It
+-- fails if an interval is out of order, or if memory runs out.
 abbrev pub AddUp : Option DayFault → Zone → List Share → FoldState → Type 0
 AddUp None zone rows fold = HasTaken zone rows fold
 AddUp (Some fault.Zone) zone rows fold = AreOutOfTurn rows
 AddUp (Some fault.Memory) zone rows fold = Unit {0}
 
--- If the energy of the intervals in `rows` fits in 128 bits, then `sink` (an accumulator) has their
--- sum by civil day, or has recorded a failure.
+-- States that `sink` (an accumulator) has the sum of the intervals in `rows` by civil day, or has
+-- recorded a failure. This is stated only if the energy of the intervals fits in 128 bits.
 abbrev pub HasAdded : JoinedDays → List Share → Type 0
 HasAdded sink rows = HasNumber rows → AddUp sink.fault sink.zone rows sink.fold
 
--- States that a new energy interval was added to a sum by civil day, or the sum has failed: the
--- interval is out of order, or memory ran out.
+-- States that a new energy interval was added to a sum by civil day, or that the sum failed. It
+-- fails if the interval is out of order, or if memory runs out.
 abbrev pub AddsUp : Option DayFault → Zone → List Share → Share → FoldState → Type 0
 AddsUp None zone rows row fold = HasTaken zone (rows ++ row ∷ []) fold
 AddsUp (Some fault.Zone) zone rows row fold = IsOutOfTurn rows row
 AddsUp (Some fault.Memory) zone rows row fold = Unit {0}
 
--- If the total energy fits in 128 bits, then an energy interval is added to the sum by civil day,
--- or the sum records a failure. The sum's time zone is unchanged.
+-- States that an energy interval was added to the sum by civil day, or that the sum recorded a
+-- failure. This is stated only if the total energy fits in 128 bits. The sum's time zone is
+-- unchanged in any case.
 pub record AddsRow (old : JoinedDays) (row : Share) (new : JoinedDays) : Type 0 where
   pub zone : new.zone ≡ old.zone
   pub added : (rows : List Share) → HasTaken old.zone rows old.fold
@@ -63,8 +64,8 @@ pub record AddsRow (old : JoinedDays) (row : Share) (new : JoinedDays) : Type 0 
 abbrev pub TakesShare : JoinedDays → Share → JoinedDays → Type 0
 TakesShare old row new = MatchOption old.fault (AddsRow old row new) (λ fault. new ≡ old)
 
--- If the energy of the intervals in `rows` fits in 128 bits, then `days` is the sum of these
--- intervals by civil day.
+-- States that, if the energy of the intervals in `rows` fits in 128 bits, `days` is the sum of
+-- these intervals by civil day.
 abbrev pub AreSumOf : Zone → List Share → EarlierDays → Type 0
 AreSumOf zone rows days = HasNumber rows → HasTaken zone rows days.fold
 

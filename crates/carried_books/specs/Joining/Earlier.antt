@@ -1,6 +1,7 @@
 -- An accounting register (a named counter) in earlier database files, and the comparison of the
 -- current database file with these files.
-use Rattle.std.specs.Prelude.{◌≡◌, ℕ, true, false, List, Option, Some, None}
+use Rattle.std.specs.Prelude.{◌≡◌, ℕ, Bool, true, false, List, Option, Some, None, bytes_eq}
+use Rattle.std.specs.List.{list_any}
 use Rattle.interval_core.specs.Fold.{FoldState}
 use Rattle.office_events.specs.declared.facts.Fact.{Fact}
 use Rattle.office_events.specs.declared.questions.Installation.{Installation}
@@ -33,8 +34,13 @@ kept_as kept = record {
   days = kept.files.days.fold;
 }
 
--- States that the new file's meters at the register (a named counter) continue or follow those of
--- the earlier database files. Otherwise two meters are returned that do neither.
+-- Whether an accounting register (a named counter) with this name was collected from an earlier
+-- database file.
+abbrev pub is_kept : (name : List ℕ) → List KeptRegister → Bool
+is_kept name kept = list_any (λ one. bytes_eq one.name name) kept
+
+-- The result `None` means that the new file's meters of this register (a named counter) continue or
+-- follow those of the earlier database files. Any other result has two meters that conflict.
 abbrev pub HoldMeters : KeptRegister → List Fact → Option Unjoined → Type 0
 HoldMeters kept facts None = (all : List Installation)
     × AddMeters kept.files.meters.items (installations_of facts kept.name) all
@@ -43,8 +49,9 @@ HoldMeters kept facts (Some (unjoined.Apart apart)) =
     AreApart kept.files.meters.items (installations_of facts kept.name) apart
 HoldMeters kept facts (Some unjoined.OutOfTurn) = ⊥
 
--- If an earlier file records the register (a named counter), then the new file records it too, and
--- its meters continue or follow the earlier meters. Otherwise the reason why not is returned.
+-- The result `None` means that the new file's meters continue or follow the earlier meters. It also
+-- means that the new file records the register (a named counter) if an earlier file does. Any other
+-- result is the reason why one of these two statements is false.
 abbrev pub HoldsFile : KeptRegister → List Fact → Option Unjoined → Type 0
 HoldsFile kept facts None =
     (kept.files.is_recorded ≡ true → is_recorded kept.name facts ≡ true)

@@ -45,22 +45,22 @@ rows_over_within span register [] = []
 rows_over_within span register (facts ∷ files) =
     rows_over_within span register files ++ rows_within span (rows_of_register facts register)
 
--- The meters at an accounting register (a named counter) in all database files, file by file. The
--- meters of each file are in the order of installation.
+-- The meters that are assigned to an accounting register (a named counter) in all database files,
+-- file by file. The meters of each file are in the order of installation.
 abbrev pub meters_over : (register : List ℕ) → (files : List (List Fact)) → List Installation
 meters_over register [] = []
 meters_over register (facts ∷ files) =
     meters_over register files ++ installations_of facts register
 
--- If a database file records an accounting register (a named counter), each later file records this
--- register too.
+-- States that, if a database file records an accounting register (a named counter), each later file
+-- records this register too.
 abbrev pub StaysRecorded : (register : List ℕ) → (files : List (List Fact)) → Type 0
 StaysRecorded register [] = Unit {0}
 StaysRecorded register (facts ∷ files) =
     (is_recorded_in register files ≡ true → is_recorded register facts ≡ true)
     × StaysRecorded register files
 
--- Several database files join at an accounting register (a named counter): together they have one
+-- Several database files join for an accounting register (a named counter): together they have one
 -- history of the register's meters `meters`.
 --
 -- If one file records the accounting register, then all later files record this register. Each
@@ -71,11 +71,11 @@ pub record AreJoined (register : List ℕ) (files : List (List Fact)) (meters : 
   pub recorded : StaysRecorded register files
   pub joined : AddMeters [] (meters_over register files) meters
 
--- True if `kept` has the data of files that join (have one history) at an accounting register (a
--- named counter). These are the register's meters, and the sum of its intervals in a span of time
--- by civil day.
+-- True if the database files join (have one history), and `kept` has their data on an accounting
+-- register (a named counter). These data are the register's meters, and the sum of its intervals in
+-- a span of time by civil day.
 --
--- The sum is right if the energy of the intervals fits in 128 bits.
+-- Nothing is stated of the sum if the energy of the intervals does not fit in 128 bits.
 pub record HasJoined (zone : Zone) (span : Span) (register : List ℕ) (files : List (List Fact))
     (kept : JoinedFiles) : Type 0 where
   pub recorded : kept.is_recorded ≡ is_recorded_in register files
@@ -85,8 +85,9 @@ pub record HasJoined (zone : Zone) (span : Span) (register : List ℕ) (files : 
   pub days : HasNumber (rows_over_within span register files)
       → HasTaken zone (rows_over_within span register files) kept.days.fold
 
--- The file's energy intervals were added to the energies by day, or one of the intervals was out of
--- order: before an earlier interval, or after the largest supported timestamp.
+-- States that the file's energy intervals were added to the energies by day, or that one of the
+-- intervals was out of order. An interval is out of order if it starts before an interval added
+-- earlier, or after the largest supported timestamp.
 abbrev pub AddDays : (rows : List Share) → (old new : JoinedDays) → Option Unjoined → Type 0
 AddDays rows old new None = TakesAll TakesShare old rows new × (new.fault ≡ None)
 AddDays rows old new (Some unjoined.OutOfTurn) =
@@ -94,8 +95,8 @@ AddDays rows old new (Some unjoined.OutOfTurn) =
 AddDays rows old new (Some why) = ⊥
 
 -- A database file continues the earlier files. The file records the register if an earlier file
--- does, the file's meters continue or follow the earlier meters, and the file's energy intervals
--- were added.
+-- does, and the file's meters continue or follow the earlier meters. The file's energy intervals
+-- were added to the collected ones.
 pub record JoinsFile (span : Span) (register : List ℕ) (facts : List Fact)
     (old new : JoinedFiles) : Type 0 where
   pub recorded : new.is_recorded ≡ is_recorded register facts
@@ -103,8 +104,8 @@ pub record JoinsFile (span : Span) (register : List ℕ) (facts : List Fact)
   pub meters : AddMeters old.meters.items (installations_of facts register) new.meters.items
   pub days : AddDays (rows_within span (rows_of_register facts register)) old.days new.days None
 
--- One of the energy intervals of a database file starts before an earlier interval of this file or
--- of earlier files, or after the largest supported timestamp.
+-- One of the energy intervals of a database file starts before an interval that was added earlier,
+-- from this file or an earlier one. Or the interval starts after the largest supported timestamp.
 pub record IsOutOfTurn (span : Span) (register : List ℕ) (facts : List Fact)
     (old : JoinedFiles) : Type 0 where
   pub days : JoinedDays
@@ -118,8 +119,8 @@ pub record AddsBoth (span : Span) (register : List ℕ) (facts : List Fact)
   pub meters : AddMeters old.meters.items (installations_of facts register) new.meters.items
   pub days : AddDays (rows_within span (rows_of_register facts register)) old.days new.days None
 
--- The meters and the energy intervals of a database file were added, or the reason is returned why
--- the file does not continue the earlier files.
+-- The meters and the energy intervals of a database file were added to the collected data.
+-- Otherwise the result is the reason why the file does not continue the earlier files.
 abbrev pub AddsRows : Span → (register : List ℕ) → (facts : List Fact) → (old new : JoinedFiles)
     → Option Unjoined → Type 0
 AddsRows span register facts old new None = AddsBoth span register facts old new
@@ -129,8 +130,8 @@ AddsRows span register facts old new (Some (unjoined.Apart apart)) =
 AddsRows span register facts old new (Some unjoined.OutOfTurn) =
     IsOutOfTurn span register facts old
 
--- The new file continues the history of the register (a named counter) in the earlier files, or the
--- reason is returned why the file does not.
+-- The new file continues the history of the register (a named counter) in the earlier files.
+-- Otherwise the result is the reason why the file does not.
 abbrev pub Joins : Span → (register : List ℕ) → (facts : List Fact) → (old new : JoinedFiles)
     → Option Unjoined → Type 0
 Joins span register facts old new None = JoinsFile span register facts old new
@@ -148,8 +149,9 @@ abbrev pub DoesNotJoin : Span → (register : List ℕ) → (facts : List Fact) 
 DoesNotJoin span register facts old why =
     (new : JoinedFiles) × Joins span register facts old new (Some why)
 
--- If the earlier database files join (have one history of the register (a named counter)), then
--- they also join together with the new file. Otherwise the reason why not is returned.
+-- Suppose that the result is `None` and the earlier database files join (have one history of the
+-- register (a named counter)). Then these files and the new file join too. For any other result,
+-- nothing is stated.
 abbrev pub AllJoin : Span → (register : List ℕ) → (facts : List Fact) → (old new : JoinedFiles)
     → Option Unjoined → Type 0
 AllJoin span register facts old new None = (zone : Zone) (files : List (List Fact))

@@ -3,8 +3,9 @@ use Rattle.std.specs.Prelude.{List, ◌∷◌, Option, Some, None}
 use Rattle.office_events.specs.declared.facts.Fact.{Fact}
 use Rattle.carried_books.specs.declared.joining.files.Unjoined.{Unjoined}
 
--- The data of a new database file are added to the data collected from the earlier files. Otherwise
--- the reason is returned why the new file does not continue the earlier files.
+-- States that, if the result is `None`, the data of a new database file were added to the data
+-- collected from the earlier files. For any other result (a reason why the new file does not
+-- continue them), states nothing.
 abbrev pub KeepsFile : {K : Type 0} → (keeps : List (List Fact) → K → Type 0) → List Fact
     → (old new : K) → Option Unjoined → Type 0
 KeepsFile keeps facts old new None =

@@ -1,5 +1,6 @@
--- Joining the meters at a register (a named counter) over several database files. Each meter of the
--- next file must continue an earlier meter, or begin after the earlier meters were closed.
+-- Defines how the meters of a register (a named counter) are joined over several database files.
+-- Each meter of the next file must continue an earlier meter, or begin after the earlier meters
+-- were closed.
 --
 -- Lists have the first installed meter first.
 use Rattle.std.specs.Prelude.{◌≡◌, ◌⊎◌, ◌+◌, ◌-◌, ◌^◌, nat_le, min, Bool, true, false, not, ◌&&◌, List, [], ◌∷◌, ◌++◌, All, Contains, Option, Some, None}
@@ -12,8 +13,9 @@ use Rattle.carried_books.specs.declared.joining.meters.Apart.{Apart}
 
 -- The meter `stands` of an earlier database file continues as the meter `row` of a later file.
 --
--- The two meters have the same name, and the state of `stands` equals the opening (first entry) of
--- `row`. The check of several files has the same requirement.
+-- The two meters have the same name, range and ceiling (maximum power). The meter `stands` is open,
+-- and its state equals the opening (first entry) of `row`. The audit of several files requires the
+-- same.
 pub record GoesOn (stands row : Installation) : Type 0 where
   pub name : row.opening.meter ≡ stands.opening.meter
   pub goes : GoesOnAs (installed stands.opening) stands.last stands.ended (installed row.opening)
@@ -35,8 +37,8 @@ is_before stands row =
     stands.ended
     && (nat_le stands.last.at row.opening.at && not (same row.opening.meter stands.opening.meter))
 
--- True if the meter `row` continues the last meter in the list `known`. In the list `after`, both
--- are replaced by one meter over all database files.
+-- States that the meter `row` continues the last meter in the list `known`. Instead of these two,
+-- the list `after` has one meter over all database files.
 pub record IsOne (known : List Installation) (row : Installation) (after : List Installation) :
     Type 0 where
   pub before : List Installation
@@ -52,8 +54,8 @@ pub record IsNext (known : List Installation) (row : Installation) (after : List
   pub earlier : All (λ stands. is_before stands row ≡ true) known
   pub after_is : after ≡ known ++ row ∷ []
 
--- True if the meter `row` continues the last meter in the list `known`, or all meters in `known`
--- were closed before `row` began. Then `after` has `row` added.
+-- States that `after` is the list `known` with the meter `row` added. Either `row` continues the
+-- last meter in `known`, or all meters in `known` were closed before `row` began.
 abbrev pub AddsMeter : (known : List Installation) → Installation → (after : List Installation)
     → Type 0
 AddsMeter known row after = IsOne known row after ⊎ IsNext known row after
@@ -80,8 +82,8 @@ pub record IsApart (known : List Installation) (row : Installation) (apart : Apa
   pub other : NoneGoesOn known row
 
 -- The meter `row` is appended to the list `known`, because all meters in the list were closed
--- before `row` began. Otherwise a meter is returned that was not closed before `row` began, or has
--- the name of `row`.
+-- before `row` began. Otherwise the result has a meter that was not closed before `row` began, or
+-- that has the name of `row`.
 abbrev pub AddsNext : (known : List Installation) → Installation → (after : List Installation)
     → Option Apart → Type 0
 AddsNext known row after None = IsNext known row after
@@ -89,7 +91,7 @@ AddsNext known row after (Some apart) =
     (apart.begins ≡ row) × Contains known apart.stands × (is_before apart.stands row ≡ false)
 
 -- The meter `row` continues the last of the earlier meters in `known`, or begins after all of them
--- were closed. Otherwise a meter is returned with which `row` conflicts.
+-- were closed. Otherwise the result has a meter with which `row` conflicts.
 abbrev pub AddsOrIsApart : (known : List Installation) → Installation
     → (after : List Installation) → Option Apart → Type 0
 AddsOrIsApart known row after None = AddsMeter known row after
@@ -109,8 +111,8 @@ pub record AreApart (known listed : List Installation) (apart : Apart) : Type 0 
   pub among : Contains listed row
   pub is : IsApart mid row apart
 
--- All meters in `listed` were added to those in `known`, or two meters are returned of which the
--- later neither continues the earlier nor begins after its closing.
+-- All meters in `listed` were added to those in `known`. Otherwise the result has a later meter,
+-- and an earlier meter with which the later meter conflicts.
 abbrev pub AddOrAreApart : (known listed after : List Installation) → Option Apart → Type 0
 AddOrAreApart known listed after None = AddMeters known listed after
 AddOrAreApart known listed after (Some apart) = AreApart known listed apart

@@ -1,7 +1,7 @@
 -- The energies of a register (a named counter) by civil day, over earlier database files and the
 -- file of the running program.
 --
--- The energy intervals of the earlier files were added up before, in order.
+-- The energy intervals of the earlier files were already added up, in order.
 use Rattle.std.specs.Prelude.{◌≡◌, ◌⊎◌, ℕ, List, ◌++◌, map, All, Option, Some, Result, Ok, Err, MatchResult, OnOk}
 use Rattle.std.specs.List.{flat_map}
 use Rattle.std.specs.declared.alloc.Global.{Global}
@@ -40,8 +40,9 @@ use Rattle.carried_books.specs.declared.joining.days.JoinedDays.{JoinedDays}
 abbrev pub IsInstalled : List Fact → Opening → Type 0
 IsInstalled facts opening = opening_of facts opening.meter ≡ Some opening
 
--- The energy intervals of the meters with the openings (first entries) in `openings` were added up
--- over a span of time, one meter after another. Otherwise the database failed.
+-- The result of adding up energy intervals over a span of time. A success means that the intervals
+-- of the meters with the openings (first entries) in `openings` were added, meter by meter. An
+-- error means that the database failed.
 abbrev pub TakesMeters : List Fact → List Opening → Span → (before after : Failures)
     → (from to : JoinedDays) → Result (Unit {0}) Refusal → Type 0
 TakesMeters facts openings span before after from to result =
@@ -62,8 +63,9 @@ pub record AsksMeters {B : Type 0} (ledger : B → Ledger) (old new : Office B)
       → TakesMeters (facts_of past) openings span
       (failures_of ledger old) (failures_of ledger new) from to result)
 
--- The energy intervals of the accounting register (a named counter) in a span of time were added
--- up. Otherwise no register has the name, or the database failed.
+-- The result of adding up the energy intervals of an accounting register (a named counter). A
+-- success means that the intervals in a span of time were added up. An error means that no register
+-- has the name, or that the database failed.
 pub record TakesRegister (facts : List Fact) (register : List ℕ) (span : Span)
     (before after : Failures) (from to : JoinedDays) (result : Result (Unit {0}) Refusal) :
     Type 0 where
@@ -98,8 +100,9 @@ abbrev pub rows_of_both : Span → (earlier : List Share) → List Fact → (reg
 rows_of_both span earlier facts register =
     earlier ++ rows_within span (rows_of_register facts register)
 
--- The energy by day of an accounting register (a named counter) over earlier database files and the
--- events that the running program accepted. The total energy must fit in 128 bits.
+-- States that, if the total energy fits in 128 bits, the result has the energy by day of an
+-- accounting register (a named counter). The energy is that in earlier database files and in the
+-- events that the running program accepted.
 abbrev pub ReportsDaysOver : {B : Type 0} → (B → Ledger) → (old new : Office B) → Zone
     → (earlier : EarlierDays) → (register : List ℕ) → Span
     → Result (Vec DayTotal Global) Refusal → Type 0
@@ -110,8 +113,9 @@ ReportsDaysOver ledger old new zone earlier register span result = After ledger 
     (is_there (register_of (facts_of past) register))
     (failures_of ledger old) (failures_of ledger new) result)
 
--- The refusal of a request if memory ran out. Any other failure is reported first: no register has
--- the name, the database failed, or the program had stopped. Otherwise the refusal is `Memory`.
+-- The refusal of a request for which memory ran out. If there is another failure (no register has
+-- the name, the database failed, or the program had stopped), the refusal reports that failure.
+-- Otherwise the refusal is `Memory`.
 abbrev pub LacksMemory : {B : Type 0} → (B → Ledger) → (old new : Office B)
     → (register : List ℕ) → Refusal → Type 0
 LacksMemory ledger old new register why = After ledger old new (λ past.

@@ -43,8 +43,8 @@ pub record PrintsOver (zone : Zone) (register : List ℕ) (files : List (List Fa
   pub is : IsReportOver zone register files form text
   pub reported : IsReported text Fine status had holds
 
--- The report of a register (a named counter) was printed from the data of files that join (have one
--- history of the register). The total energy must fit in 128 bits.
+-- Suppose that the total energy fits in 128 bits. Then the report of a register (a named counter)
+-- was printed from the data of files that join (have one history of the register).
 abbrev pub ReportsJoined : {W : Type 0} → writers.Ghosts W → JoinedFiles → ReportForm
     → (had holds : W) → ExitStatus → Type 0
 ReportsJoined w joined form had holds status =

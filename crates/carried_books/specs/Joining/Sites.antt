@@ -1,4 +1,4 @@
--- The latest meter at an accounting register (a named counter) over earlier database files and the
+-- The latest meter of an accounting register (a named counter) over earlier database files and the
 -- file of the running program.
 --
 -- Lists have the first installed meter first.
@@ -15,30 +15,30 @@ use Rattle.carried_books.specs.Joining.Meters.{AddMeters, as_one}
 use Rattle.carried_books.specs.declared.joining.earlier.EarlierRegister.{EarlierRegister}
 use Rattle.carried_books.specs.declared.joining.sites.LatestMeter.{LatestMeter}
 
--- The meters at an accounting register (a named counter) in earlier database files, each with its
--- data from all of these files. The list is empty if no file has the register.
+-- The meters that earlier database files assign to an accounting register (a named counter), each
+-- with its data from all of these files. The list is empty if no file has the register.
 abbrev pub earlier_meters : List EarlierRegister → (register : List ℕ) → List Installation
 earlier_meters [] register = []
 earlier_meters (one ∷ more) register =
     if same one.name register then one.meters.items else earlier_meters more register
 
--- True if the running program's meter `row` continues the meter `stands`, which was still open at
--- the end of the earlier database files.
+-- True if the meter `stands` was still open at the end of the earlier database files, and the
+-- current file's meter `row` has its name.
 abbrev pub is_left : (stands row : Installation) → Bool
 is_left stands row = not stands.ended && same row.opening.meter stands.opening.meter
 
--- The latest meter at a register (a named counter) if only earlier database files have a meter at
--- this register. All of its energy is from these files.
+-- The latest meter of a register (a named counter) if only earlier database files have a meter of
+-- this register. All energy of the meter is from these files.
 abbrev pub of_earlier : Installation → LatestMeter
 of_earlier stands = record { meter = stands; earlier = Some stands.total }
 
--- The latest meter at a register (a named counter) if only the current database file has a meter at
--- this register. The meter has no energy from earlier files.
+-- The latest meter of a register (a named counter) if the meter `row` begins in the current
+-- database file. The meter has no energy from earlier files.
 abbrev pub of_office : Installation → LatestMeter
 of_office row = record { meter = row; earlier = None }
 
--- The latest meter at a register if the current database file has the meter `row`, and the last
--- meter of the earlier files is `stands`.
+-- The latest meter of a register (a named counter). The current database file has the meter `row`,
+-- and the last meter of the earlier files is `stands`.
 --
 -- If `row` continues `stands`, the result is one meter over all files.
 abbrev pub of_both : (stands row : Installation) → LatestMeter
@@ -47,7 +47,7 @@ of_both stands row =
     then (record { meter = as_one stands row; earlier = Some stands.total })
     else of_office row
 
--- The latest meter at a register (a named counter) over all database files, from the earlier files'
+-- The latest meter of a register (a named counter) over all database files, from the earlier files'
 -- last meter and the current file's latest meter. `None` if neither of these meters exists.
 abbrev pub latest : (stands row : Option Installation) → Option LatestMeter
 latest None None = None
@@ -59,19 +59,19 @@ latest (Some stands) (Some row) = Some (of_both stands row)
 abbrev pub last_of : List Installation → Option Installation
 last_of meters = slice_get meters (length meters - 1)
 
--- The latest meter at an accounting register over all database files, from the meters in the
--- earlier files and the latest meter in the current file.
+-- The latest meter of an accounting register (a named counter) over all database files. It is found
+-- from the earlier files' meters and the current file's latest meter.
 abbrev pub latest_meter : (earlier : List Installation) → (row : Option Installation)
     → Option LatestMeter
 latest_meter earlier row = latest (last_of earlier) row
 
--- The opening (first entry) and the state of the latest meter at an accounting register (a named
+-- The opening (first entry) and the state of the latest meter of an accounting register (a named
 -- counter).
 abbrev pub meter_of : LatestMeter → Installation
 meter_of reported = reported.meter
 
--- The theorem on the latest meter at an accounting register (a named counter). If the meters of the
--- latest file continue or follow those of the earlier files, then the reported meter is the last
+-- The theorem on the latest meter of an accounting register (a named counter). If the current
+-- file's meters continue or follow those of the earlier files, then the reported meter is the last
 -- meter of all files.
 abbrev pub LatestIsOfAllFiles : Type 0
 LatestIsOfAllFiles = (register : List ℕ) (facts : List Fact) (earlier all : List Installation)

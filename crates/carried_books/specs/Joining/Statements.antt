@@ -46,7 +46,7 @@ pub record MeterOver : Type 0 where
   pub rows : List Share
   pub holds : List HeldReading
 
--- The data of a meter in a single database file that has the meter.
+-- The data of a meter in one database file, read from the records of this file.
 abbrev pub meter_in : List Fact → Installation → MeterOver
 meter_in facts row = record {
   stands = row;
@@ -73,8 +73,8 @@ both_of one next = record {
   holds = one.holds ++ next.holds;
 }
 
--- True if the meter `next` continues the last meter in the list `known`. In the list `after`, both
--- are replaced by one meter over all database files.
+-- States that the meter `next` continues the last meter in the list `known`. Instead of these two,
+-- the list `after` has one meter over all database files.
 pub record IsOneOver (known : List MeterOver) (next : MeterOver) (after : List MeterOver) :
     Type 0 where
   pub before : List MeterOver
@@ -90,20 +90,20 @@ pub record IsNextOver (known : List MeterOver) (next : MeterOver) (after : List 
   pub earlier : All (λ one. is_before one.stands next.stands ≡ true) known
   pub after_is : after ≡ known ++ next ∷ []
 
--- True if the meter `next` continues the last meter in the list `known`, or all meters in `known`
--- were closed before `next` began.
+-- States that `after` is the list `known` with the meter `next` added. Either `next` continues the
+-- last meter in `known`, or all meters in `known` were closed before `next` began.
 abbrev pub AddsOver : (known : List MeterOver) → MeterOver → (after : List MeterOver) → Type 0
 AddsOver known next after = IsOneOver known next after ⊎ IsNextOver known next after
 
--- The data of the meters at an accounting register (a named counter) in all database files, file by
+-- The data of the meters of an accounting register (a named counter) in all database files, file by
 -- file. The meters of each file are in the order of installation.
 abbrev pub parts_over : (register : List ℕ) → (files : List (List Fact)) → List MeterOver
 parts_over register [] = []
 parts_over register (facts ∷ files) =
     parts_over register files ++ map (meter_in facts) (installations_of facts register)
 
--- The database files join at the accounting register (have one history of its meters), and `meters`
--- are its meters over all files.
+-- The database files join for the accounting register (together they have one history of its
+-- meters), and `meters` are its meters over all files.
 --
 -- A meter that the latest file does not have keeps its data from the earlier files.
 pub record AreMetersOver (register : List ℕ) (files : List (List Fact)) (meters : List MeterOver) :
@@ -171,8 +171,8 @@ pub record HasStated (zone : Zone) (range : DayRange) (register : List ℕ)
   pub are : AreMetersOver register files meters
   pub reported : AreReported zone range kept.meters.items meters
 
--- The tally (first and last entry, corrections) of some meter entries is extended by the entries in
--- `entries`.
+-- States that the tally `new` counts the entries that the tally `old` counts, and also those in
+-- `entries`. A tally has the first and last entry and the corrections of a meter.
 abbrev pub TalliesOn : Zone → DayRange → List MeterEntry → (old new : EntryTally) → Type 0
 TalliesOn zone range entries old new = (before : List MeterEntry)
     → old ≡ tally_of zone range before → new ≡ tally_of zone range (before ++ entries)
@@ -212,8 +212,8 @@ with_part kept row part = record {
   };
 }
 
--- If the meters in `listed`, which are those of one more file, continue or follow the earlier
--- meters, their data are added to the collected data.
+-- States that, if the result is `None`, the data of the meters in `listed` (those of one more file)
+-- were added to the collected data. For any other result (two conflicting meters), states nothing.
 abbrev pub ReportsAll : Zone → DayRange → (facts : List Fact) → (listed : List Installation)
     → (old new : List KeptMeter) → Option Apart → Type 0
 ReportsAll zone range facts listed old new None = (meters : List MeterOver)
@@ -222,16 +222,16 @@ ReportsAll zone range facts listed old new None = (meters : List MeterOver)
     × AreReported zone range new after
 ReportsAll zone range facts listed old new (Some apart) = Unit {0}
 
--- The meters of the database file were added to the collected meters, or two meters are returned.
--- The later of the two neither continues the earlier nor begins after the earlier was closed.
+-- The meters of the database file were added to the collected meters. Otherwise the result has a
+-- later meter, and an earlier meter with which the later meter conflicts.
 abbrev pub AddsListed : Zone → DayRange → (facts : List Fact) → (listed : List Installation)
     → (old new : List KeptMeter) → Option Apart → Type 0
 AddsListed zone range facts listed old new apart =
     AddOrAreApart (map stands_of old) listed (map stands_of new) apart
     × ReportsAll zone range facts listed old new apart
 
--- The database file does not continue the earlier files, for the reason that a daily report over
--- the files would also return.
+-- The database file does not continue the earlier files. The reason is the same as that of a daily
+-- report over the files.
 --
 -- A statement (a report on meters) allows energy intervals out of order, since the statement only
 -- needs their sum.
@@ -267,8 +267,8 @@ StatesJoined w joined form had holds status =
     → HasStated zone form.range register files joined
     → PrintsStatement zone register files form status (w.contents had) (w.contents holds)
 
--- The theorem that a report over one database file, which the program wrote, has a statement (row)
--- for each meter of the file.
+-- The theorem that a report over one database file has a statement (row) for each meter of the
+-- file. The theorem assumes that the program wrote the file.
 abbrev pub OneFileStatesItsMeters : Type 0
 OneFileStatesItsMeters = (zone : Zone) (range : DayRange) (register : List ℕ) (facts : List Fact)
     (meters : List MeterOver)
@@ -276,8 +276,8 @@ OneFileStatesItsMeters = (zone : Zone) (range : DayRange) (register : List ℕ) 
     → statements_over zone range meters
     ≡ statements_of zone range facts (installations_of facts register)
 
--- A meter entry with its index in a single database file that has the entries of two files. In the
--- single file, `count` entries of the old file come before it.
+-- A meter entry, with the index that this entry has in a single database file with the entries of
+-- two files. In the single file, `count` entries of the old file come before this entry.
 abbrev pub moved_entry : (count : ℕ) → MeterEntry → MeterEntry
 moved_entry count (entry.Opening last) = entry.Opening last
 moved_entry count (entry.Later row sf) = entry.Later (moved_row count row) sf
@@ -286,7 +286,7 @@ moved_entry count (entry.Later row sf) = entry.Later (moved_row count row) sf
 -- and the new file.
 --
 -- The new file's entries follow the old file's entries, and each quarter hour has the energy of
--- both files. The rejected readings are in the same order.
+-- both files. The new file's rejected readings follow those of the old file.
 pub record HaveOneJournal (old new both : MeterOver) : Type 0 where
   pub count : ℕ
   pub name : both.stands.opening.meter ≡ old.stands.opening.meter

@@ -31,7 +31,7 @@ fn follow<N: Books>(office: &mut Office<N>, plan: Plan) -> Result<u64, CarryFaul
 /// The new office gets the devices, point lists and accounting registers (named counters) of the
 /// old office. Each open meter continues from its last valid (not voided) entry, up to the
 /// timestamp `until` if one is given. The meters are installed in the order of these entries. The
-/// old file is only queried, before the new office receives any command.
+/// old file is queried and not changed. All queries precede the first command to the new office.
 pub fn carry_books<O: Books, N: Books>(
     alloc: Global,
     old: &mut O,

@@ -189,7 +189,7 @@ fn add_installs(added: &mut Vec<TimedCommand>, openings: &[Opening]) -> Result<(
     Ok(())
 }
 
-// Returns the timestamp at which the new database file sets up its devices: that of the first
+// Returns the timestamp at which devices are set up in the new database file: that of the first
 // meter's opening, or the latest recorded timestamp if no meter is installed.
 fn first_moment<B: Books>(books: &mut B, openings: &[Opening]) -> Result<u64, BooksFault>
     ensures found { Finds (B.ledger books.old) (B.ledger books.new) result

@@ -4,7 +4,7 @@ use office_events::{Name, Refusal};
 /// The reason why the meters of a database file could not continue in a new file.
 #[derive(Clone, Copy)]
 pub enum CarryFault {
-    /// The database of the old file failed, or memory ran out. The refusal states which of both
+    /// The database of the old file failed, or memory ran out. The refusal states which of the two
     /// happened.
     Old(Refusal),
     /// The office of the new database file refused a command that sets up this file.

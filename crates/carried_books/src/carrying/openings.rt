@@ -24,7 +24,7 @@ pub enum Openings {
     NotYet(Name),
 }
 
-// Adds the open meter at an accounting register (a named counter) to a list of meters, if the
+// Adds the open meter of an accounting register (a named counter) to a list of meters, if the
 // register has an open meter.
 fn add_open<B: Books>(
     rows: &mut Vec<Installation>,
@@ -44,8 +44,8 @@ fn add_open<B: Books>(
     Ok(())
 }
 
-// Adds the open meter at each accounting register (a named counter) in `registers` to a list of
-// meters.
+// For each accounting register (a named counter) in `registers`, adds the register's open meter, if
+// there is one, to a list of meters.
 fn add_registers<B: Books>(
     rows: &mut Vec<Installation>,
     books: &mut B,
@@ -62,7 +62,7 @@ fn add_registers<B: Books>(
     Ok(())
 }
 
-// Adds the open meters at a device's accounting registers (named counters) to a list of meters.
+// Adds the open meters of a device's accounting registers (named counters) to a list of meters.
 fn add_device<B: Books>(
     rows: &mut Vec<Installation>,
     books: &mut B,
@@ -76,7 +76,7 @@ fn add_device<B: Books>(
     add_registers(rows, books, &registers)
 }
 
-// Adds the open meters at the accounting registers (named counters) of each device in `devices` to
+// Adds the open meters of the accounting registers (named counters) of each device in `devices` to
 // a list of meters.
 fn add_devices<B: Books>(
     rows: &mut Vec<Installation>,
@@ -94,8 +94,8 @@ fn add_devices<B: Books>(
     Ok(())
 }
 
-/// Returns the open meters at the accounting registers (named counters) of the devices in
-/// `devices`, in the order of the devices.
+/// Returns the open meters that are assigned to the accounting registers (named counters) of the
+/// devices in `devices`, in the order of the devices.
 pub fn open_meters<B: Books>(
     alloc: Global,
     books: &mut B,
@@ -146,8 +146,8 @@ pub fn openings_of<B: Books>(
     Ok(Openings::All(opened))
 }
 
-/// Returns the openings (first entries) in `opened` in the order of their timestamps. A new file's
-/// office refuses a command whose timestamp is before that of an earlier command.
+/// Returns the openings (first entries of meters) in `opened` in the order of their timestamps. A
+/// new file's office refuses a command whose timestamp is before that of an earlier command.
 pub fn in_order(opened: Vec<Opening>) -> Result<Vec<Opening>, AllocError>
     ensures same { IfOk result (λ v. IsPermutation opened.items v.items) }
     ensures ordered { IfOk result (λ v. AllPairs (λ (a b : Opened). a.at ≤ b.at) v.items) }

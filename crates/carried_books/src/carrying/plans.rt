@@ -11,8 +11,8 @@ use std::alloc::Global;
 
 /// The plan of a new database file in which meters continue (a file rollover).
 ///
-/// The plan has the commands for the new file and the number of meters that they install. Otherwise
-/// the plan names a meter that has no valid entry to continue from.
+/// The variant `Ready` has the commands for the new file and the number of meters that they
+/// install. The variant `NotYet` names a meter without a valid entry to continue from.
 #[derive(Drop)]
 pub enum Plan {
     Ready {
@@ -23,8 +23,8 @@ pub enum Plan {
     NotYet(Name),
 }
 
-// Returns the plan for a new database file, which sets up the devices in `devices` and installs a
-// meter for each opening (first entry) in `opened`.
+// Returns the plan for a new database file. The plan's commands set up the devices in `devices`,
+// and install a meter for each opening (first entry) in `opened`.
 fn plan_for<B: Books>(
     alloc: Global,
     books: &mut B,
@@ -43,7 +43,8 @@ fn plan_for<B: Books>(
     })
 }
 
-/// Returns the plan for a new database file in which meters continue. The old file is only queried.
+/// Returns the plan for a new database file in which the meters of the old file continue. The old
+/// file is only queried.
 pub fn plan_of<B: Books>(
     alloc: Global,
     books: &mut B,

@@ -9,9 +9,9 @@ use std::alloc::{AllocError, Global};
 
 /// Adds up energy intervals by civil day, as they arrive.
 ///
-/// An interval that starts before an earlier one, or after the largest supported timestamp, is out
-/// of order, which is a fault. After a fault, or after memory ran out, all further intervals are
-/// dropped.
+/// An interval is out of order if it starts before an interval added earlier, or after the largest
+/// supported timestamp. This is a fault. After a fault, or after memory ran out, all further
+/// intervals are dropped.
 #[derive(Drop)]
 pub struct JoinedDays {
     zone: Zone,
@@ -50,8 +50,8 @@ impl JoinedDays {
         self.zone
     }
 
-    // Adds an energy interval to the sum by civil day, or records the fault that the interval is
-    // out of order.
+    // Adds an energy interval to the sum by civil day. If the interval is out of order, or if
+    // memory runs out, records this fault instead.
     fn add(&mut self, row: Share)
         requires works { self.old.fault ≡ None }
         ensures { AddsRow self.old row self.new }
@@ -74,8 +74,8 @@ impl JoinedDays {
         self.fault
     }
 
-    /// Returns the civil days with their energy, in order, or the first failure. The refusal for an
-    /// interval out of order is that for an interval without a civil day.
+    /// Returns the civil days with their energy, in order, or the refusal for the first failure. An
+    /// interval out of order has the same refusal as an interval without a civil day.
     pub(crate) fn into_days(self) -> Result<Vec<DayTotal>, Refusal>
         ensures { EndsAs self.fault self.fold.accounts result }
     {
@@ -97,8 +97,8 @@ impl JoinedDays {
 
 /// The sum of energy intervals of earlier files by civil day, without the time zone of the days.
 ///
-/// A limit of the proof system is the reason why the time zone is left out. The proof system has no
-/// rule for a call over a file's database that borrows a value with a time zone.
+/// The time zone is left out because of a limit of the proof system. The proof system has no rule
+/// for a call that uses a file's database and borrows a value with a time zone.
 #[derive(Drop)]
 pub struct EarlierDays {
     fold: DayFold,

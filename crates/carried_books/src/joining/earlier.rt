@@ -1,11 +1,12 @@
 //! Collects the accounting registers (named counters) of earlier database files, so that the
 //! running program can report energy over all files.
-ghost use Rattle.std.specs.Prelude.{◌≡◌, List, map, IfOk};
+ghost use Rattle.std.specs.Prelude.{◌≡◌, ◌++◌, ◌∷◌, [], List, None, map, true, IfErr, IfOk, OnOk};
 ghost use Rattle.office_events.specs.declared.facts.Fact.{Fact};
 ghost use Rattle.office_books.specs.Ledgers.{Consults};
+ghost use Rattle.office_books.specs.declared.faults.BooksFault.TheVariants.{Memory};
 ghost use Rattle.office_books.specs.declared.spans.Span.TheVariants.{All};
 ghost use Rattle.carried_books.specs.Joining.Files.{AllJoin};
-ghost use Rattle.carried_books.specs.Joining.Earlier.{HoldMeters, HoldsFile, kept_as, reported};
+ghost use Rattle.carried_books.specs.Joining.Earlier.{HoldMeters, HoldsFile, is_kept, kept_as, reported};
 
 use crate::joining::days::EarlierDays;
 use crate::joining::files::{JoinedFiles, Unjoined, add_books, is_recorded, join_meters, no_files};
@@ -68,8 +69,8 @@ pub fn add_next_file<B: Books>(
     add_books(&mut kept.files, books, &name, Span::All)
 }
 
-// Compares the meters of a database file at an accounting register (a named counter) with those of
-// the earlier files: each meter must continue or follow the earlier meters.
+// Compares a database file's meters of an accounting register (a named counter) with those of the
+// earlier files: each meter must continue or follow the earlier meters.
 fn hold_meters<B: Books>(kept: &KeptRegister, books: &mut B) -> Result<Option<Unjoined>, BooksFault>
     ensures holds { (known : List Fact) → (B.ledger books.old).holds known
         → (B.ledger books.new).is_clean
@@ -115,8 +116,8 @@ pub fn compare_file<B: Books>(
     }
 }
 
-/// The accounting registers (named counters) of several database files. Each register is collected
-/// from the first file that has it.
+/// The data of the accounting registers (named counters) of several database files. The data of a
+/// register begin with the first file that has the register.
 #[derive(Drop)]
 pub struct KeptRegisters {
     alloc: Global,
@@ -126,13 +127,10 @@ pub struct KeptRegisters {
 
 // Returns whether the accounting register (a named counter) with this name is among the registers
 // collected from earlier database files.
-fn is_kept(kept: &[KeptRegister], name: &Name) -> bool {
-    for one in kept {
-        if one.name.is(name) {
-            return true;
-        }
-    }
-    false
+fn is_kept(kept: &[KeptRegister], name: &Name) -> bool
+    ensures { result ≡ is_kept name.now kept.now }
+{
+    kept.iter().any(|one| one.name.is(name))
 }
 
 // Adds the data of the next database file to each collected register.
@@ -178,6 +176,16 @@ fn compare_all<B: Books>(
     Ok(None)
 }
 
+fn push_register(kept: &mut Vec<KeptRegister>, one: KeptRegister) -> Result<(), BooksFault>
+    ensures fails { IfErr result (λ fault. fault ≡ Memory) }
+    ensures kept { OnOk result (kept.new.items ≡ kept.old.items ++ one ∷ []) }
+{
+    match kept.push(one) {
+        Ok(()) => Ok(()),
+        Err(_) => Err(BooksFault::Memory),
+    }
+}
+
 // Adds an accounting register (a named counter) of a database file to the collected registers, if
 // no earlier file has the register.
 fn add_new<B: Books>(
@@ -187,7 +195,8 @@ fn add_new<B: Books>(
     books: &mut B,
     name: Name,
 ) -> Result<Option<Unjoined>, BooksFault>
-    ensures { Consults (B.ledger books.old) (B.ledger books.new) result }
+    ensures kept { IfOk result (λ why. why ≡ None → is_kept name kept.new.items ≡ true) }
+    ensures asks { Consults (B.ledger books.old) (B.ledger books.new) result }
 {
     if is_kept(kept.as_slice(), &name) {
         return Ok(None);
@@ -202,16 +211,15 @@ fn add_new<B: Books>(
             if why.is_some() {
                 return Ok(why);
             }
-            match kept.push(one) {
-                Ok(()) => Ok(None),
-                Err(_) => Err(BooksFault::Memory),
-            }
+            let KeptRegister { files, .. } = one;
+            push_register(kept, KeptRegister { name, files })?;
+            Ok(None)
         }
     }
 }
 
-// Adds the accounting registers (named counters) in `registers` to the collected registers, if they
-// are not among them yet.
+// Adds to the collected registers those accounting registers (named counters) in `registers` that
+// were not collected before.
 fn add_registers<B: Books>(
     alloc: Global,
     zone: Zone,
@@ -234,8 +242,8 @@ fn add_registers<B: Books>(
     Ok(None)
 }
 
-// Adds the accounting registers (named counters) of a device to the collected registers, if they
-// are not among them yet.
+// Adds to the collected registers those accounting registers (named counters) of a device that were
+// not collected before.
 fn add_device<B: Books>(
     alloc: Global,
     zone: Zone,
@@ -251,8 +259,8 @@ fn add_device<B: Books>(
     }
 }
 
-// Adds the accounting registers (named counters) of the devices in `devices` to the collected
-// registers, if they are not among them yet.
+// Adds to the collected registers those accounting registers (named counters) of the devices in
+// `devices` that were not collected before.
 fn add_devices<B: Books>(
     alloc: Global,
     zone: Zone,
@@ -275,8 +283,8 @@ fn add_devices<B: Books>(
     Ok(None)
 }
 
-// Adds all accounting registers (named counters) of a database file to the collected registers, if
-// they are not among them yet.
+// Adds to the collected registers all accounting registers (named counters) of a database file,
+// except those collected before.
 fn add_others<B: Books>(
     alloc: Global,
     zone: Zone,

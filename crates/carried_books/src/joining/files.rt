@@ -1,5 +1,5 @@
-//! Joins several database files at an accounting register (a named counter), the oldest file first.
-//! Files join if together they have one history of the register's meters.
+//! Joins the data of several database files on an accounting register (a named counter), the oldest
+//! file first. Files join if together they have one history of the register's meters.
 ghost use Rattle.std.specs.Prelude.{◌≡◌, ℕ, List, [], IfOk};
 ghost use Rattle.office_events.specs.declared.facts.Fact.{Fact};
 ghost use Rattle.office_books.specs.Intervals.{rows_of_register};
@@ -24,11 +24,11 @@ pub enum Unjoined {
     /// The database file does not record the accounting register (a named counter), though an
     /// earlier file does.
     NotRecorded,
-    /// A meter of the database file at the accounting register (a named counter) neither continues
-    /// an earlier meter nor begins after the earlier meters were closed.
+    /// A meter of the accounting register (a named counter) in the database file conflicts with an
+    /// earlier meter, as `Apart` explains.
     Apart(Apart),
-    /// An energy interval of the database file starts before an earlier interval, or after the
-    /// largest supported timestamp.
+    /// An energy interval of the database file starts before an interval that was added earlier, or
+    /// after the largest supported timestamp.
     OutOfTurn,
 }
 
@@ -65,8 +65,8 @@ pub(crate) fn is_recorded<B: Books>(books: &mut B, register: &Name) -> Result<bo
     }
 }
 
-/// Adds the meters of a database file at an accounting register (a named counter). Returns a pair
-/// of conflicting meters if a meter neither continues nor follows the earlier meters.
+/// Adds a database file's meters of an accounting register (a named counter) to `meters`. If a
+/// meter does not continue or follow the earlier meters, returns this meter and an earlier one.
 pub(crate) fn join_meters<B: Books>(
     meters: &mut Vec<Installation>,
     books: &mut B,
@@ -88,8 +88,8 @@ pub(crate) fn join_meters<B: Books>(
 }
 
 // Adds the energy intervals of an accounting register (a named counter) in a span of time. Returns
-// the reason if an interval is out of order: it starts before an earlier interval, or after the
-// largest supported timestamp.
+// the reason if an interval is out of order: it starts before an interval added earlier, or after
+// the largest supported timestamp.
 fn join_days<B: Books>(
     days: &mut JoinedDays,
     books: &mut B,
@@ -113,7 +113,7 @@ fn join_days<B: Books>(
 }
 
 // Adds the meters and the energy intervals of an accounting register (a named counter) in a
-// database file to those of the earlier files. Returns the reason if they don't continue the
+// database file to those of the earlier files. Returns the reason if the file does not continue the
 // earlier files.
 fn add_rows<B: Books>(
     joined: &mut JoinedFiles,

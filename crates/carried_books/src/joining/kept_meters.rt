@@ -30,9 +30,9 @@ const PIECE: u32 = 65536;
 
 const MOST_PIECES: u64 = 281_474_976_710_655;
 
-// Returns the index of the first entry of a meter in a database file that no earlier file has. If
-// the meter continues from an earlier file, its entry 1 repeats the last entry there, so the index
-// is 2.
+// Returns the index, in a database file, of the first entry of a meter that no earlier file has.
+// The index is 2 if the meter continues from an earlier file, because entry 1 then repeats the last
+// entry of that file.
 fn first_place(goes_on: bool) -> u64
     ensures place { result ≡ if goes_on then 2 else 1 }
     ensures few { result ≤ 2 }
@@ -67,8 +67,8 @@ fn tally_on<B: Books>(
     Err(BooksFault::Memory)
 }
 
-// Returns the energy of a meter in a range of days, in mWh. Only the quarter hours around the
-// range's days are queried.
+// Returns the energy of a meter in a range of days, in mWh. Only the quarter hours in a time span
+// that contains the range's days are queried.
 fn energy<B: Books>(
     books: &mut B,
     zone: &Zone,

@@ -26,7 +26,7 @@ pub fn joined_days_agree_with_both_files()
 {}
 
 /// Proves that a report over one database file has a statement (row) for each of the file's meters.
-/// The program must have written the file.
+/// The theorem assumes that the program wrote the file.
 pub fn one_file_states_its_meters()
     ensures { OneFileStatesItsMeters }
 {
@@ -42,11 +42,11 @@ pub fn both_files_state_the_joined_meter()
     ensures { BothFilesStateTheJoinedMeter }
 {}
 
-/// Proves that the latest meter that is reported for an accounting register (a named counter) is
-/// the register's last meter in all database files.
+/// Proves a theorem on the latest meter of an accounting register (a named counter). If the meters
+/// of the latest file continue or follow those of the earlier files, then the reported meter is the
+/// register's last meter in all files.
 ///
-/// The meters of the latest file must continue or follow those of the earlier files, and the
-/// program must have written the latest file.
+/// The theorem assumes that the program wrote the latest file.
 pub fn latest_is_of_all_files()
     ensures { LatestIsOfAllFiles }
 {

@@ -1,4 +1,4 @@
-//! Joins the meters at an accounting register (a named counter) over several database files, the
+//! Joins the meters of an accounting register (a named counter) over several database files, the
 //! oldest file first.
 ghost use Rattle.std.specs.Prelude.{◌≡◌, ◌↔◌, ◌&&◌, IsTrue, not, find, IfOk};
 ghost use Rattle.meter_journal.specs.Audit.CarriedFiles.{GoesOnAs};
@@ -11,8 +11,9 @@ use office_books::installed;
 use office_events::Installation;
 use std::alloc::AllocError;
 
-/// Two meters at a register (a named counter), an earlier one and a later one. The later meter
-/// neither continues the earlier meter nor begins after the earlier meter was closed.
+/// Two meters of a register (a named counter) that conflict, an earlier and a later one. The
+/// earlier meter was not closed before the later meter began, or both have the same name. The later
+/// meter does not continue the last earlier meter.
 #[derive(Clone, Copy)]
 pub struct Apart {
     pub stands: Installation,
@@ -70,7 +71,7 @@ pub(crate) fn as_one(stands: &Installation, row: &Installation) -> Installation
     }
 }
 
-/// Returns whether the meter `stands` was closed before the meter `row` began. The two meters must
+/// Returns whether the meter `stands` was closed before the meter `row` began, and the two meters
 /// have different names.
 pub(crate) fn is_before(stands: &Installation, row: &Installation) -> bool
     ensures { result ≡ meters.is_before stands.now row.now }
@@ -81,7 +82,7 @@ pub(crate) fn is_before(stands: &Installation, row: &Installation) -> bool
 }
 
 // Returns the first of the earlier meters in `known` that was not closed before the meter `row`
-// began.
+// began, or that has the name of `row`. Returns `None` if no meter is like this.
 fn not_before(known: &[Installation], row: &Installation) -> Option<Installation>
     ensures { result ≡ find (λ stands. not (meters.is_before stands row.now)) known.now }
 {
@@ -93,8 +94,8 @@ fn not_before(known: &[Installation], row: &Installation) -> Option<Installation
     None
 }
 
-// Appends the meter `row` to the earlier meters in `known`, or returns a meter in `known` that was
-// not closed before `row` began.
+// Appends the meter `row` to the earlier meters in `known`. If a meter in `known` was not closed
+// before `row` began, or has the name of `row`, returns both meters instead.
 fn add_next(known: &mut Vec<Installation>, row: &Installation) -> Result<Option<Apart>, AllocError>
     ensures { IfOk result (AddsNext known.old.items row.now known.new.items) }
 {
@@ -111,8 +112,8 @@ fn add_next(known: &mut Vec<Installation>, row: &Installation) -> Result<Option<
 }
 
 // Adds the meter `row` to the earlier meters in `known`, if `row` continues the last of them or
-// begins after all were closed. If `row` does neither, returns `row` and a meter that it does not
-// follow.
+// begins after all were closed. If `row` does neither, returns `row` and a meter that `row` does
+// not follow.
 fn add_meter(known: &mut Vec<Installation>, row: &Installation) -> Result<Option<Apart>, AllocError>
     ensures { IfOk result (AddsOrIsApart known.old.items row.now known.new.items) }
 {

@@ -14,7 +14,7 @@ use office_books::{Books, Span, facts_are_lawful};
 use office_core::Office;
 use office_events::{Installation, Name, Refusal};
 
-// Adds to a sum by day the energy intervals of the meters in `meters` in a span of time, one meter
+// Adds the energy intervals of the meters in `meters` in a span of time to a sum by day, one meter
 // after another.
 fn add_meters_within<B: Books>(
     days: &mut JoinedDays,
@@ -33,8 +33,8 @@ fn add_meters_within<B: Books>(
     Ok(())
 }
 
-// Adds to a sum by day the energy intervals of an accounting register (a named counter) in a span
-// of time, from the current database file.
+// Adds the energy intervals of an accounting register (a named counter) in a span of time to a sum
+// by day. The intervals are those in the current database file.
 fn add_register<B: Books>(
     days: &mut JoinedDays,
     office: &mut Office<B>,
@@ -67,9 +67,9 @@ fn without_memory<B: Books>(office: &mut Office<B>, register: &Name) -> Refusal
 /// Returns the energy by civil day of a register (a named counter) over earlier database files and
 /// the current file, in mWh.
 ///
-/// From the current file, the days have the energy of the quarter hours in a span of time. The time
-/// zone must be that of the earlier days. The current file is only queried. If a quarter hour
-/// starts before an earlier one, the refusal is that for a quarter hour without a civil day.
+/// From the current file, only the quarter hours in a span of time are added. The time zone must be
+/// that of the earlier days. The current file is only queried. If a quarter hour starts before one
+/// that was added earlier, the refusal is the same as for a quarter hour without a civil day.
 pub fn days_over<B: Books>(
     office: &mut Office<B>,
     zone: Zone,

@@ -49,7 +49,7 @@ pub fn report_days<W: Write>(days: &[DayTotal], form: &ReportForm, output: &mut 
 /// Prints the energy of an accounting register (a named counter) over files that join (have one
 /// history), by period. The request `form` has the range of days, the unit and the format.
 ///
-/// The collected data must include the quarter hours around the days of the range.
+/// The data must have been collected for the time span that `span_around` returns for the range.
 pub fn report_joined<W: Write>(joined: JoinedFiles, form: &ReportForm, output: &mut W) -> ExitStatus
     ensures { ReportsJoined W.Write joined form.now output.old output.new result }
 {

@@ -1,4 +1,4 @@
-//! Joins the meters at an accounting register (a named counter) in earlier database files with
+//! Joins the meters of an accounting register (a named counter) in earlier database files with
 //! those of the current file.
 ghost use Rattle.std.specs.Prelude.{◌≡◌};
 ghost use Rattle.carried_books.specs.Joining.Sites as sites;
@@ -15,8 +15,8 @@ pub struct LatestMeter {
     pub earlier: Option<u64>,
 }
 
-/// Returns the meters at a register (a named counter) in earlier database files, in the order of
-/// installation. Each meter has its data from all of these files.
+/// Returns the meters that earlier database files assign to a register (a named counter), in the
+/// order of installation. Each meter has its data from all of these files.
 ///
 /// The result is empty if the files have no such register.
 pub fn earlier_meters<'a>(earlier: &'a [EarlierRegister], register: &Name) -> &'a [Installation]
@@ -30,8 +30,8 @@ pub fn earlier_meters<'a>(earlier: &'a [EarlierRegister], register: &Name) -> &'
     &[]
 }
 
-// Returns whether the current file's meter `row` continues the meter `stands`, which was still open
-// at the end of the earlier database files.
+// Returns whether the meter `stands` was still open at the end of the earlier database files, and
+// the current file's meter `row` has its name.
 fn is_left(stands: &Installation, row: &Installation) -> bool
     ensures { result ≡ sites.is_left stands.now row.now }
 {
@@ -39,8 +39,8 @@ fn is_left(stands: &Installation, row: &Installation) -> bool
     both(!stands.ended, is_one)
 }
 
-// Returns the latest meter at a register (a named counter) if only earlier database files have a
-// meter at this register.
+// Returns the latest meter of a register (a named counter) if only earlier database files have a
+// meter of this register.
 fn of_earlier(stands: &Installation) -> LatestMeter
     ensures { result ≡ sites.of_earlier stands.now }
 {
@@ -50,8 +50,8 @@ fn of_earlier(stands: &Installation) -> LatestMeter
     }
 }
 
-// Returns the latest meter at a register if the current database file has the meter `row`, and the
-// last meter of the earlier files is `stands`.
+// Returns the latest meter of a register (a named counter). The current database file has the meter
+// `row`, and the last meter of the earlier files is `stands`.
 fn of_both(stands: &Installation, row: &Installation) -> LatestMeter
     ensures { result ≡ sites.of_both stands.now row.now }
 {
@@ -68,8 +68,8 @@ fn of_both(stands: &Installation, row: &Installation) -> LatestMeter
     }
 }
 
-// Returns the latest meter at a register (a named counter) over all database files, or `None` if no
-// file has a meter at this register.
+// Returns the latest meter of a register (a named counter) over all database files, or `None` if no
+// file has a meter of this register.
 fn latest(stands: &Option<Installation>, row: &Option<Installation>) -> Option<LatestMeter>
     ensures { result ≡ sites.latest stands.now row.now }
 {
@@ -88,12 +88,12 @@ fn latest(stands: &Option<Installation>, row: &Option<Installation>) -> Option<L
     }
 }
 
-/// Returns the latest meter at a register, from its meters in earlier files and its latest meter in
-/// the current file.
+/// Returns the latest meter of a register (a named counter), from its meters in the earlier files
+/// and its latest meter in the current file.
 ///
-/// If the current file's meter continues the last meter of the files, the result is one meter over
-/// all files, with the energy of all files. If the current file has no meter at the register, the
-/// result is the last meter of the files.
+/// If the current file's meter continues the last earlier meter, the result is one meter over all
+/// files, with the energy of all files. If the current file has no meter of the register, the
+/// result is the last earlier meter.
 pub fn latest_meter(earlier: &[Installation], row: &Option<Installation>) -> Option<LatestMeter>
     ensures { result ≡ sites.latest_meter earlier.now row.now }
 {

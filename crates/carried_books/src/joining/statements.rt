@@ -1,4 +1,4 @@
-//! Creates the statements (billing reports) of the meters at an accounting register (a named
+//! Creates the statements (billing reports) of the meters of an accounting register (a named
 //! counter) over several database files.
 ghost use Rattle.std.specs.Prelude.{◌≡◌, ◌∷◌, ◌++◌, [], List, map, find, not, IfErr, IfOk, OnOk};
 ghost use Rattle.std.specs.Option.{option_map};
@@ -37,7 +37,7 @@ pub struct JoinedStatement {
 }
 
 // Returns the first of the earlier meters in `known` that was not closed before the meter `row`
-// began.
+// began, or that has the name of `row`. Returns `None` if no meter is like this.
 fn not_before(known: &[KeptMeter], row: &Installation) -> Option<Installation>
     ensures { result ≡ option_map stands_of
         (find (λ one. not (meters.is_before one.stands row.now)) known.now) }
@@ -51,7 +51,7 @@ fn not_before(known: &[KeptMeter], row: &Installation) -> Option<Installation>
 }
 
 // Appends the meter `row` to the earlier meters in `known`. If a meter in `known` was not closed
-// before `row` began, returns this meter instead.
+// before `row` began, or has the name of `row`, returns both meters instead.
 fn add_next<B: Books>(
     known: &mut Vec<KeptMeter>,
     books: &mut B,
@@ -140,8 +140,8 @@ fn add_listed<B: Books>(
     Ok(None)
 }
 
-// Adds the meters of a database file at an accounting register (a named counter) to those of the
-// earlier files.
+// Adds the meters that a database file assigns to an accounting register (a named counter) to those
+// of the earlier files.
 fn add_meters<B: Books>(
     known: &mut Vec<KeptMeter>,
     books: &mut B,

@@ -1,5 +1,5 @@
--- Proves how a fold over a list is extended. A step with item `i` after a fold over the first `i`
--- items is the fold over the first `i + 1` items.
+-- Proves that a fold over the first `i` items of a list, followed by a step with item `i` (counted
+-- from 0), is the fold over the first `i + 1` items.
 use Rattle.std.proofs.Common.{◌≡◌, ◌∙◌, ◌+◌, ◌<◌, ◌∷◌, [], ap, sym, ℕ, List, length, take, get_or}
 use Rattle.std.specs.Prelude.{fold}
 use Rattle.std.proofs.lemmas.List.{take_more}

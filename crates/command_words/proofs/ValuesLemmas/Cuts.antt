@@ -13,8 +13,8 @@ use Rattle.std.proofs.lemmas.Str.{len_utf8_ascii}
 use Rattle.std.proofs.lemmas.Str.Pattern.{IsSplitOnceResult, NoCharPasses-char, split_once_first}
 use Rattle.std.proofs.lemmas.List.Sums.{suffix_len_is}
 
--- If no byte of a text satisfies the predicate, then the text before the split is the complete
--- text, and the text after it is empty.
+-- A text is split at the first byte that satisfies a predicate. If no byte satisfies it, then the
+-- part before the split is the complete text, and the part after it is empty.
 first_none : (p : ℕ → Bool) (bs : List ℕ) → position_or_len p bs ≡ length bs → (before_first p bs ≡ bs) × (after_first p bs ≡ [])
 first_none p bs e = (ap (λ n. take n bs) e ∙ take-length bs, ap (λ n. drop (n + 1) bs) e ∙ drop_of_length-le bs (omega arith))
 
@@ -25,8 +25,8 @@ first_cut c bs None cut low = first_none (λ b. b == c) bs (split_once_first c b
 first_cut c bs (Some x) cut low =
     let h = split_once_first c bs (Some x) cut low in (h.1, h.2)
 
--- If byte `j - 1` satisfies the predicate and no later byte does, then the text after the split
--- begins at byte `j`.
+-- Suppose that byte `j - 1` of a text satisfies a predicate, and no later byte does. Then the
+-- longest suffix without bytes that satisfy the predicate begins at byte `j`.
 pub last_at : (p : ℕ → Bool) (bs : List ℕ) (j : ℕ) → j ≤ length bs → ((k : ℕ) → j ≤ k → k < length bs → p (get_or bs k 0) ≡ false)
     → (0 < j → p (get_or bs (j - 1) 0) ≡ true) → suffix_len (λ x. not (p x)) bs ≡ length bs - j
 last_at p bs j within rest at = suffix_len_is (λ x. not (p x)) bs j 0 within (λ k low high. ap not (rest k low high)) (λ some. ap not (at some))
@@ -51,7 +51,7 @@ places n s i j size within ends = (omega arith, omega arith)
 before_it : (i j : ℕ) → j ≡ i + 1 → i ≡ j - 1
 before_it i j ends = omega arith
 
--- If a text is split at its last byte `c`, then the results are the text before this byte and the
+-- If a text is split at its last byte `c`, then the two parts are the text before this byte and the
 -- text after it.
 last_found : (c : ℕ) (bs front back : List ℕ) → c < 128 → SplitsAroundMatch (RFindsChar c) bs front back
     → (front ≡ before_last (λ b. b == c) bs) × (back ≡ after_last (λ b. b == c) bs)

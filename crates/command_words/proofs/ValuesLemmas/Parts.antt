@@ -9,7 +9,8 @@ use Rattle.command_words.specs.Values.Devices.{are_distinct, device_in, name_in,
 use Rattle.command_words.specs.Values.Given.{each_of, given}
 use Rattle.command_words.specs.declared.values.devices.Device.{Device}
 
--- Lemmas on the results for the items of a list, extended by the result for one more item.
+-- Lemmas about applying a partial function to each item of a list. If an item is appended to the
+-- list, its result is appended to the results.
 
 abbrev with_last : {B : Type 0} → Option (List B) → Option B → Option (List B)
 with_last values value = given values (λ vs. given value (λ v. Some (vs ++ v ∷ [])))
@@ -40,7 +41,7 @@ each_none f [] i d within none = absurd (omega (arith, within))
 each_none f (x ∷ xs) zero d within none = ap (λ o. with_first o (each_of f xs)) none
 each_none f (x ∷ xs) (suc i) d within none = nothing_first (f x) (each_of f xs) (each_none f xs i d (omega (arith, within)) none)
 
--- Lemmas on the devices in the first parts of a device list, which a loop parses one by one.
+-- Lemmas about the devices in the first parts of a device list, which a loop parses one by one.
 
 pub devices_more : (parts : List (Bor Text)) (i : ℕ) (d : Bor Text) (old new : List Device) (device : Device) → i < length parts
     → Some (map place_of old) ≡ each_of device_in (texts (take i parts)) → Some (place_of device) ≡ device_in (get_or parts i d).now → new ≡ old ++ device ∷ []
@@ -56,7 +57,8 @@ devices_none parts i d within none =
     let inside : i < length (texts parts) = rw length-map within in
     each_none device_in (texts parts) i d.now inside (none ∙ ap device_in (sym (get_or-map (λ part. part.now) parts i d d.now within)))
 
--- Lemmas on the device names in the parts of a device list from an index on.
+-- Lemmas about the device names in a device list from an index on. They state whether all names are
+-- different, and whether a given name is among them.
 
 list_any-map : {X Y : Type 0} (p : Y → Bool) (f : X → Y) (xs : List X) → list_any (λ x. p (f x)) xs ≡ list_any p (map f xs)
 list_any-map p f [] = refl

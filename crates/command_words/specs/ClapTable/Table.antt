@@ -19,15 +19,15 @@ long_rule name = record (new_rule name) { long = Some name }
 abbrev pub required_option : Text → Rule
 required_option name = record (long_rule name) { value_names = 1; required = true }
 
--- The `clap` rule of an optional option with a value.
+-- The `clap` rule of an option that has a value and need not be given.
 abbrev pub optional_option : Text → Rule
 optional_option name = record (long_rule name) { value_names = 1 }
 
--- The `clap` rule of an optional option that may be given several times.
+-- The `clap` rule of an option that need not be given, and may be given several times.
 abbrev pub repeated_option : Text → Rule
 repeated_option name = record (long_rule name) { value_names = 1; action = Some Append }
 
--- The `clap` rule of a required option that may be given several times.
+-- The `clap` rule of an option that must be given, and may be given several times.
 abbrev pub several_option : Text → Rule
 several_option name =
     record (long_rule name) { value_names = 1; required = true; action = Some Append }
@@ -48,8 +48,8 @@ word name = record (new_rule name) { value_names = 1; required = true }
 abbrev pub command_with : Text → List Rule → App
 command_with name options = fold with_rule (new_app name) options
 
--- The program `a`, with two settings for `clap`. The arguments do not begin with the program's
--- name, and `--version` is accepted.
+-- The program `a`, with two settings for `clap`: the arguments do not begin with the program's
+-- name, and the flag `--version` is accepted.
 abbrev pub as_program : App → App
 as_program a = record a { top = record a.top { no_binary_name = true; has_version = true } }
 
@@ -57,7 +57,8 @@ as_program a = record a { top = record a.top { no_binary_name = true; has_versio
 abbrev pub with_apps : App → List App → App
 with_apps a commands = fold (λ a c. with_subcommand a c.top) a commands
 
--- A program with the name `name`, the subcommands `commands`, and then the subcommands `later`.
+-- A program with the name `name`. Its subcommands are those of the list `commands`, followed by
+-- those of the list `later`.
 abbrev pub program_with : Text → (commands later : List App) → App
 program_with name commands later =
     as_program (with_apps (with_apps (new_app name) commands) later)
@@ -116,6 +117,7 @@ abbrev pub IsFound : ProgramText → List (Bor Text) → ArgMatches → Type 0
 IsFound program words found =
     subcommand_rows_of found ≡ subcommand_of (program_app program) (texts words)
 
--- States that parsing fails only with an error that `clap` may report for the given arguments.
+-- States that, if parsing fails, `clap` is allowed to report the returned error for the given
+-- arguments.
 abbrev pub Fails : {T : Type 0} → ProgramText → List (Bor Text) → Result T Error → Type 0
 Fails program words result = FailsBy (fault_of (program_app program) (texts words)) result

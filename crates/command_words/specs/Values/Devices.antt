@@ -77,8 +77,8 @@ CutsAtEquals part result =
     MatchOption result ((name_in part ≡ part) × (address_in part ≡ []))
     (λ around. (around.0.now ≡ name_in part) × (around.1.now ≡ address_in part))
 
--- States that the result has the texts before and after the last `:` of an address. The result is
--- None if the address has no `:`.
+-- States that the result has the texts before and after the last `:` of an address. The result None
+-- is allowed only if the address has no `:`, or no text before its last `:`.
 abbrev pub CutsAtLastColon : Text → Option (Bor Text × Bor Text) → Type 0
 CutsAtLastColon address result =
     MatchOption result (host_in address ≡ [])
@@ -105,7 +105,7 @@ has_name parts name = list_any (λ part. bytes_eq name (name_in part.now)) parts
 abbrev pub have_distinct_names : List (Bor Text) → Bool
 have_distinct_names parts = are_distinct (names_in (texts parts))
 
--- The devices in the parts of a device list. None unless there are 1 to 64 parts, each part is a
+-- The devices in the parts of a device list. None unless there are at most 64 parts, each part is a
 -- valid device, and all names are different.
 abbrev pub devices_of : List Text → Option (List Place)
 devices_of parts =
@@ -116,14 +116,14 @@ devices_of parts =
 abbrev pub devices_in : Text → Option (List Place)
 devices_in text = devices_of (slice_split is_comma text)
 
--- States which faults the parser may report for a list that should have the devices `due`. `Memory`
+-- States which faults the parser may report for a list whose specified devices are `due`. `Memory`
 -- (out of memory) is always allowed, other faults only if the list is invalid (`due` is None).
 abbrev pub IsFault : ListFault → Option (List Place) → Type 0
 IsFault fault.Memory due = ⊤
 IsFault (fault.Part part why) due = None ≡ due
 
--- States that a function parses a device list correctly. It returns the devices `due`, or an
--- allowed fault.
+-- States that a function parses a device list correctly. It returns the specified devices `due`, or
+-- a fault that is allowed for this list.
 abbrev pub Reads : {Z : Type 0} → Option (List Place) → Result (Vec Device Z) ListFault → Type 0
 Reads due result =
     MatchResult result (λ devices. Some (places_of devices.items) ≡ due)

@@ -5,18 +5,18 @@
 pub enum Value<'a> {
     /// A required option with a value.
     Required(&'a str),
-    /// An optional option with a value.
+    /// An option with a value that need not be given.
     Optional(&'a str),
-    /// An optional option whose value is one of the words in `choices`.
+    /// An option that need not be given, and whose value is one of the words in `choices`.
     Chosen {
         shown: &'a str,
         choices: &'a [&'a str],
     },
-    /// An optional option with a value that may be given several times.
+    /// An option with a value that need not be given, and may be given several times.
     Repeated(&'a str),
-    /// A required option with a value that may be given several times.
+    /// An option with a value that must be given, and may be given several times.
     Several(&'a str),
-    /// A flag: an optional option without a value.
+    /// A flag: an option without a value, which need not be given.
     Absent,
     /// A flag that also has a short form of one letter, such as `-n`.
     Letter(char),

@@ -1,4 +1,4 @@
-//! A reason why a text is no valid list of devices.
+//! A reason why a text is not a valid list of devices.
 use crate::values::devices::{MOST_DEVICES, MOST_PORT};
 use std::alloc::{AllocError, AllocFailed};
 use std::error::Error;
@@ -16,7 +16,7 @@ pub enum DeviceFault {
     TooMany,
 }
 
-/// A reason why a text is no valid list of devices.
+/// A reason why a text is not a valid list of devices.
 #[derive(Clone, Copy, Debug, Drop)]
 pub enum ListFault<'a> {
     /// The part `part` of the list is not a valid device.

@@ -1,4 +1,4 @@
--- The times that a clock will return, if they are known in advance.
+-- Models a clock as the list of its future times: each call returns the next time of the list.
 use Rattle.std.specs.Prelude.{◌≡◌, ℕ, Bool, List, [], ◌∷◌, Option, None, Some, nat_lt}
 use Rattle.mb_wire.specs.declared.sockets.clock.FixedClock.{FixedClock}
 
@@ -15,14 +15,15 @@ next_moment (moment ∷ later) = moment
 abbrev pub ReportsLate : (until : ℕ) → (late : Bool) → (moments : List ℕ) → Type 0
 ReportsLate until late moments = late ≡ nat_lt until (next_moment moments)
 
--- The remaining times of a clock after it returned the first. A clock repeats the last time of its
--- list.
+-- The times that a clock will return after it returned the first time of its list. If only one time
+-- is left, the clock repeats it.
 abbrev pub later_moments : List ℕ → List ℕ
 later_moments [] = []
 later_moments (moment ∷ []) = moment ∷ []
 later_moments (moment ∷ next ∷ later) = next ∷ later
 
--- True if the clock returned the first of its known times, and will return the later times next.
+-- States that a clock with a list of future times returned the first time of the list, and
+-- continues with the later times. States nothing about a clock without such a list (`None`).
 abbrev pub ReportsMoment : Option (List ℕ) → Option (List ℕ) → ℕ → Type 0
 ReportsMoment None new moment = Unit {0}
 ReportsMoment (Some moments) new moment =

@@ -6,7 +6,8 @@ pub trait Clock {
     ghost use Rattle.std.specs.Prelude.{ℕ, List, Option, None};
     ghost use Rattle.mb_wire.specs.Sockets.Clocks.{ReportsMoment};
 
-    // The times that the clock will return, or `None` if they are not known in advance.
+    // The times that the clock will return, or `None` if they are not known in advance, as for the
+    // operating system's clock.
     ghost moments: { Self → Option (List ℕ) } = { λ _. None };
 
     /// Returns the current time, or 0 if the clock cannot be read.

@@ -1,12 +1,13 @@
-//! Counts the calls of a connection: failures, reads and ends of the input.
+//! Counts the calls of a connection: failed reads and writes, all reads, and reads that found the
+//! end of the input.
 ghost use Rattle.std.specs.Prelude.{◌≡◌, is_err, true, Some};
 ghost use Rattle.mb_wire.specs.Links.{is_end, is_failed_give, risen};
 ghost use Rattle.mb_wire.specs.Sockets.Beginnings.{CountsNothing};
 
 use crate::{LastTake, LinkFailed, Took};
 
-/// The numbers of failed calls, of reads, and of reads that found the end of the input. `last` is
-/// the last read. The numbers saturate at 2^64 - 1.
+/// Counts of calls: failed reads and writes, all reads, and reads that found the end of the input.
+/// `last` is the last read. The counts saturate at 2^64 - 1.
 #[derive(Drop)]
 pub struct Counts {
     pub failures: u64,

@@ -1,10 +1,10 @@
-//! A connection whose calls fail after a deadline.
+//! A connection whose reads and writes fail after a deadline.
 use crate::sockets::clock::Clock;
 use crate::sockets::counts::Counts;
 use crate::{LastTake, Link, LinkFailed, Took};
 
-/// A connection whose calls fail after a given time. Each call reads the clock, which is tested and
-/// not proved.
+/// A connection whose reads and writes fail after a given time. Tests, not proofs, show that each
+/// read and write looks at the clock.
 #[derive(Drop)]
 pub struct DeadlineLink<'l, L: Link, C: Clock> {
     link: &'l mut L,

@@ -7,8 +7,8 @@ use std::io::{self, ErrorKind, Read, Write};
 use std::net::{OpenStream, Shutdown};
 use std::time::Duration;
 
-/// A link over a connected socket. `new` sets a timeout of one second, and `waiting` sets the
-/// caller's timeout.
+/// A link over a connected socket. `new` sets a timeout of one second, and `waiting` sets the given
+/// timeout.
 ///
 /// A read that times out returns `Took::Idle`. A write that times out fails. Any call that a signal
 /// interrupts fails too.
@@ -43,11 +43,11 @@ impl<S: Read + Write + OpenStream + Drop> SocketLink<S> {
         })
     }
 
-    /// Closes a connection on which the peer may still send bytes.
+    /// Closes a connection on which the other side may still send bytes.
     ///
-    /// Shuts down the sending side, and then discards input until the input ends, a read times out,
-    /// or ten reads were made. Closing a socket with unread input would reset the connection, and
-    /// the peer might lose the last response.
+    /// Shuts down the sending side, and then discards input until the input ends, a read fails or
+    /// times out, or ten reads were made. Closing a socket with unread input would reset the
+    /// connection, and the other side might lose the last response.
     pub fn end(mut self) {
         if self.stream.shutdown(Shutdown::Write).is_err() {
             return;

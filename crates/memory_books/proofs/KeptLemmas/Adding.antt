@@ -1,4 +1,5 @@
--- Lemmas that a cache of lookup results agrees with the store's records after one more record.
+-- Lemmas: after one more record is added to a store, the updated cache of lookup results still
+-- agrees with the store's records.
 use Rattle.std.proofs.Common.{◌≡◌, ℕ, ◌+◌, ◌<◌, Bool, false, cond, List, ◌∷◌, ◌++◌, reverse, take, length, get_or, Option, Some, None, refl, sym, ap, subst, ◌∙◌}
 use Rattle.std.specs.List.{find, filter}
 use Rattle.std.specs.Option.{option_and_then}
@@ -75,8 +76,8 @@ pub record NamesAreTrue (kept : Known) (facts : List Fact) : Type 0 where
   pub registers : EachIs (λ device v. v.items ≡ registers_of facts device) kept.registers
   pub standing : EachIs (IsLatest facts) kept.standing
 
--- If a record changes no point list, register list or state of a meter, then the unchanged cache of
--- these agrees with the new records.
+-- Suppose that a new record changes no device's point list or accounting registers, and no meter's
+-- state. Then the cached results of these three kinds still agree with the records.
 quiet : (f : Fact) (facts : List Fact) (old new : Known) → ((device : List ℕ) → list_of (f ∷ facts) device ≡ list_of facts device)
     → ((device : List ℕ) → registers_of (f ∷ facts) device ≡ registers_of facts device)
     → ((meter : List ℕ) (row : Installation) → IsLatest facts meter row → IsLatest (f ∷ facts) meter row)
@@ -126,8 +127,8 @@ comes stay hold move ranges (fact.Outcome e) facts old new lawful changes are =
 comes stay hold move ranges (fact.Reply r) facts old new lawful changes are =
     quiet (fact.Reply r) facts old new (λ device. refl) (λ device. refl) (λ meter row is. latest_stays stay (fact.Reply r) facts meter row refl refl is) changes are
 
--- After one more record, the cached point lists, registers, states of meters and polls agree with
--- the records.
+-- If a cache agrees with the records and is updated for one more record, then it agrees with the
+-- records including this one.
 pub all_comes : OtherMetersStay → HoldsChangeNothing → EntriesMoveOn → InstallationsAreInRange → (f : Fact) (facts : List Fact) (old mid new : Known) (polls : Polls)
     → AreLawful (f ∷ facts) → Changes f old mid → mid.polls ≡ old.polls → PollsChange f mid.polls polls
     → new.lists ≡ mid.lists → new.registers ≡ mid.registers → new.standing ≡ mid.standing → new.polls ≡ polls
@@ -142,8 +143,8 @@ all_comes stay hold move ranges f facts old mid new polls lawful changes same_po
       polls = subst (λ (p : Polls). PollsAreTrue p (f ∷ facts)) (sym own) there;
     }
 
--- If a cache of lookup results agreed with the first `i` new records, then it agrees with the first
--- `i + 1` new records.
+-- A loop updates the cache for new records one by one. If the cache agrees with the store's records
+-- after the first `i` new records, then also after the first `i + 1`.
 pub one_more : (old now new : Known) (known facts : List Fact) (i : ℕ) (f : Fact) → i < length facts → f ≡ get_or facts i f
     → ((known : List Fact) → AreLawful (f ∷ known) → AreTrue now known → AreTrue new (f ∷ known))
     → (AreLawful (with_facts (take i facts) known) → AreTrue old known → AreTrue now (with_facts (take i facts) known))

@@ -75,15 +75,15 @@ kept_too {T} so old new name y may there are other x is =
       | inr this ↦ subst (λ (n : List ℕ). so n x) (sym this.0) (subst (so name) (some_one y x (sym this.1 ∙ is)) there)
     ]
 
--- If a new property of cached results follows from an old property, then it holds for all results
--- of an unchanged cache that had the old property.
+-- Suppose that one property of a cached result implies a second property. If all results of an
+-- unchanged cache have the first property, then all have the second.
 pub each_same : {T : Type 0} (so now : List ℕ → T → Type 0) (old new : Answers T) → new ≡ old → ((name : List ℕ) (x : T) → so name x → now name x)
     → EachIs so old → EachIs now new
 each_same {T} so now old new same_one go are name x is =
     go name x (are name x (sym (ap (λ (a : Answers T). answer_to a name) same_one) ∙ is))
 
--- If a new property of cached results follows from an old property, then it holds for the results
--- that remain after a removal.
+-- Suppose that one property of a cached result implies a second property. If all results have the
+-- first property, then the results that remain after a removal have the second.
 pub each_left : {T : Type 0} (so now : List ℕ → T → Type 0) (old new : Answers T) (name : List ℕ) → Forgets name old new
     → ((other : List ℕ) (x : T) → same name other ≡ false → so other x → now other x) → EachIs so old → EachIs now new
 each_left so now old new name forgets go are other x is =

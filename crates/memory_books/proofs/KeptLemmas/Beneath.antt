@@ -1,5 +1,5 @@
--- The lemma that a store with an empty cache has the same records and properties as the store from
--- which it caches results.
+-- The lemma that a store with an empty cache has the same model (abstract state) as the underlying
+-- store whose lookup results it caches.
 use Rattle.std.proofs.Common.{List, refl}
 use Rattle.office_events.specs.declared.facts.Fact.{Fact}
 use Rattle.office_books.specs.Ledgers.{Ledger}

@@ -8,7 +8,8 @@ use Rattle.memory_books.specs.declared.kept.known.Known.{Known}
 use Rattle.memory_books.specs.Kept.Known.{AreTrue}
 use Rattle.memory_books.specs.Kept.Keeping.{keeping}
 
--- If no records are added, then the records of a store with a cache are unchanged.
+-- If a call changes neither the underlying store's records nor the cache, then it does not change
+-- the records of the store with the cache.
 keeps : (old new : Ledger) (kept : Known) → (new.is_clean → old.is_clean) → KeepsFacts old new → KeepsFacts (keeping kept old) (keeping kept new)
 keeps old new kept clean k = record {
   facts = λ known holds. (k.facts known holds.0, λ c. holds.1 (clean c));
@@ -31,7 +32,8 @@ nothing_booked old new kept facts (Ok done) none books = record {
 nothing_booked old new kept facts (Err why) none books =
     let wrong : false ≡ true = (books.nothing none).0 in absurd (cc)
 
--- True if the cache of lookup results agrees with the records after the records `facts` are added.
+-- States that, if the cache agreed with the records before the call, then it agrees with the
+-- records after `facts` are added.
 abbrev Comes : (kept after : Known) (facts : List Fact) → Type 0
 Comes kept after facts =
     (known : List Fact) → AreLawful (with_facts facts known) → AreTrue kept known → AreTrue after (with_facts facts known)
@@ -48,8 +50,8 @@ booked old new kept after given facts done some same comes books = record {
   goes = record { clean = books.goes.clean; faults = books.goes.faults; zone = books.goes.zone };
 }
 
--- If adding records fails and the cache of lookup results is emptied, then the store with the cache
--- satisfies the guarantees of a write.
+-- If a write to the underlying store fails and the cache is emptied, the store with the cache
+-- satisfies the guarantees of a failed write.
 pub failed : (old new : Ledger) (kept after : Known) (facts : List Fact) (why : BooksFault) → (facts ≡ [] → ⊥)
     → ((known : List Fact) → AreTrue after known)
     → Books old new facts (Err why) → Books (keeping kept old) (keeping after new) facts (Err why)

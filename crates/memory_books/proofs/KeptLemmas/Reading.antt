@@ -1,5 +1,5 @@
--- Lemmas about lookups that are answered from a cache, or from the store whose results the cache
--- keeps.
+-- Lemmas about lookups in a store with a cache, which returns either a cached result or the result
+-- of the underlying store.
 use Rattle.std.proofs.Common.{refl, Result, Ok, List}
 use Rattle.office_events.specs.declared.facts.Fact.{Fact}
 use Rattle.office_books.specs.declared.faults.BooksFault.{BooksFault}
@@ -8,8 +8,8 @@ use Rattle.memory_books.specs.declared.kept.known.Known.{Known}
 use Rattle.memory_books.specs.Kept.Known.{AreTrue}
 use Rattle.memory_books.specs.Kept.Keeping.{keeping}
 
--- If a lookup is passed on to the cached store, and the cache still agrees with the records, then
--- the guarantees of a lookup hold.
+-- Suppose that the underlying store answers a lookup, and the cache afterwards still agrees with
+-- the records. Then the store with the cache satisfies the guarantees of a lookup.
 pub asked : {T : Type 0} (old new : Ledger) (kept after : Known) (result : Result T BooksFault)
     → ((facts : List Fact) → old.holds facts → new.is_clean → AreTrue kept facts → AreTrue after facts)
     → OnlyReads old new result → OnlyReads (keeping kept old) (keeping after new) result
@@ -26,16 +26,16 @@ pub passed_on : {T : Type 0} (old new : Ledger) (kept : Known) (result : Result 
     → OnlyReads old new result → OnlyReads (keeping kept old) (keeping kept new) result
 passed_on old new kept result reads = asked old new kept kept result (λ facts holds clean are. are) reads
 
--- If a lookup with the result `x` satisfies the guarantees (unchanged records, counted failures),
--- then it also satisfies them with the result `y`.
+-- The guarantees of a successful lookup (unchanged records, counted failures) do not depend on its
+-- result. If they hold with the result `x`, they also hold with `y`.
 pub answered_with : {T S : Type 0} (old new : Ledger) (x : T) (y : S) → OnlyReads old new (Ok x) → OnlyReads old new (Ok y)
 answered_with old new x y reads = record {
   goes = record { clean = reads.goes.clean; faults = reads.goes.faults; zone = reads.goes.zone };
   keeps = reads.keeps;
 }
 
--- If a lookup is answered from the cache, then the guarantees of a lookup hold, because the cached
--- store is not called.
+-- If the cache answers a lookup, the lookup satisfies its guarantees, because the underlying store
+-- is not called and does not change.
 pub unasked : {T : Type 0} (ledger : Ledger) (x : T) → OnlyReads ledger ledger (Ok x)
 unasked ledger x = record {
   goes = record { clean = λ clean. clean; faults = refl; zone = refl };

@@ -1,4 +1,5 @@
--- Lemmas that the cached pending polls agree with the store's records after one more record.
+-- Lemmas: after one more record is added to a store, the updated cache of pending polls still
+-- agrees with the store's records.
 use Rattle.std.proofs.Common.{◌≡◌, ◌⊎◌, inl, inr, ℕ, ◌<◌, ◌≤◌, ◌==◌, true, false, List, [], ◌∷◌, length, is_some, Option, Some, None, refl, sym, ap, subst, ◌∙◌, Result, Ok, Err, OnOk, OnErr, arith}
 use Rattle.std.specs.BTreeMap.{BTreeMap, get, Updates, IsUnchanged, is_at}
 use Rattle.std.specs.Map.{lookup}
@@ -21,7 +22,7 @@ use Rattle.memory_books.specs.declared.kept.polls.Polls.{Polls}
 use Rattle.memory_books.specs.Kept.Polls.{waiting_at, waits, PollsAreTrue, PollsChange}
 use Rattle.memory_books.proofs.KeptLemmas.Answering.{none_and_some, some_one}
 
--- If the rules accept the records, then their polls are numbered consecutively from 1.
+-- If the records are valid, then their polls are numbered consecutively from 1.
 numbered : (facts : List Fact) → AreLawful facts → AreNumbered (polls_in facts)
 numbered [] h = tt
 numbered (fact.Device d ∷ facts) h = numbered facts h.1
@@ -138,8 +139,8 @@ end_comes e facts old new changes are = record {
   started = λ count is. are.started count (sym changes.1 ∙ is);
 }
 
--- If a record is neither a start nor an outcome of a poll, then the unchanged cached polls agree
--- with the new records.
+-- If a new record is neither a start nor an outcome of a poll, then the unchanged cached polls
+-- still agree with the records.
 quiet : (f : Fact) (facts : List Fact) (old new : Polls) → ((n : ℕ) → poll_row_of (f ∷ facts) n ≡ poll_row_of facts n)
     → polls_in (f ∷ facts) ≡ polls_in facts → new ≡ old → PollsAreTrue old facts → PollsAreTrue new (f ∷ facts)
 quiet f facts old new rows polls same_one are =
@@ -171,8 +172,8 @@ poll_in (Ok was) old new p ok err n =
     ]
 poll_in (Err e) old new p ok err n = inl (ap (λ (es : List (ℕ × Poll)). lookup (is_at (nat_cmp n)) es) err)
 
--- After the number of polls that a lookup returned is cached, the cached polls still agree with the
--- records.
+-- If a lookup returned the number of polls, and this number is then cached, the cached polls still
+-- agree with the records.
 pub count_kept : (old new : Polls) (facts : List Fact) (count : ℕ) → new.waiting ≡ old.waiting → new.started ≡ Some count
     → count ≡ length (polls_in facts) → PollsAreTrue old facts → PollsAreTrue new facts
 count_kept old new facts count waiting started is are = record {

@@ -1,4 +1,4 @@
--- Lemmas about a lookup table to which records are added one by one.
+-- Lemmas about a lookup table that is updated for the store's records one by one.
 use Rattle.std.proofs.Common.{◌≡◌, ℕ, ◌+◌, ◌<◌, ◌≤◌, List, [], ◌∷◌, ◌++◌, reverse, take, drop, length, get_or, sym, ap, subst, ◌∙◌, arith}
 use Rattle.std.proofs.lemmas.List.{reverse-append, length-reverse, length-take-le, take-append-drop, take-append-le, take_all, length-append}
 use Rattle.office_events.specs.declared.facts.Fact.{Fact}
@@ -11,15 +11,15 @@ lawful_before : (later known : List Fact) → AreLawful (later ++ known) → Are
 lawful_before [] known h = h
 lawful_before (f ∷ later) known h = lawful_before later known h.1
 
--- If the rules accept each record of a list after the earlier records, then they accept the first
--- `k` records of the list.
+-- If each record of a list is valid after the records before it, then so is each of the first `k`
+-- records.
 pub first_lawful : (facts : List Fact) (k : ℕ) → AreLawful (latest_first facts) → AreLawful (latest_first (take k facts))
 first_lawful facts k h =
     lawful_before (reverse (drop k facts)) (reverse (take k facts))
     (subst AreLawful (ap reverse (sym (take-append-drop k facts)) ∙ reverse-append (take k facts) (drop k facts)) h)
 
--- After the next record of a list is added to a lookup table, the table agrees with the records up
--- to this record.
+-- Suppose that a lookup table agrees with the first records of a list. If the table is updated for
+-- the next record, it agrees with the records including this one.
 pub come_on : {T : Type 0} (says : T → List Fact → Type 0) (old new : Kept T) (facts : List Fact) (f : Fact) → AreLawful (latest_first facts)
     → HasCome says old facts → old.count < length facts → f ≡ get_or facts old.count f → new.count ≡ old.count + 1
     → ((known : List Fact) → AreLawful (f ∷ known) → length known ≡ old.count → says old.table known → says new.table (f ∷ known))
@@ -34,15 +34,14 @@ come_on says old new facts f lawful come less is counted put =
       said = subst (says new.table) (sym (ap (λ (k : ℕ). reverse (take k facts)) counted ∙ more)) (put before may long come.said);
     }
 
--- If all records of a list were added to a lookup table, then the table agrees with all records of
--- the list.
+-- If a lookup table was updated for every record of a list, then it agrees with the complete list.
 pub come_whole : {T : Type 0} (says : T → List Fact → Type 0) (kept : Kept T) (facts : List Fact) → HasCome says kept facts
     → length facts ≤ kept.count → says kept.table (latest_first facts)
 come_whole says kept facts come all =
     subst (λ (xs : List Fact). says kept.table (reverse xs)) (take_all kept.count facts all) come.said
 
--- After the store gets more records, a lookup table still agrees with the records that were added
--- to the table.
+-- If records are appended to the store's list, a lookup table still agrees with the earlier
+-- records, for which it was already updated.
 pub come_with : {T : Type 0} (says : T → List Fact → Type 0) (kept : Kept T) (facts more : List Fact) → HasCome says kept facts → HasCome says kept (facts ++ more)
 come_with says kept facts more come = record {
   few = omega (arith, come.few, length-append facts more);

@@ -87,8 +87,8 @@ by_caller name number (fact.Poll p) = refl
 by_caller name number (fact.Outcome e) = refl
 by_caller name number (fact.Reply r) = refl
 
--- A lookup by key through a table of record indices has the same result as a search of all records
--- for the latest with the key.
+-- Looking up a key in a table of record indices finds the same record as searching all records for
+-- the latest record with this key.
 pub looked_up : {Y : Type 0} (at : List Fact → ℕ → Option Y) (facts known : List Fact) (place : Option ℕ) (key own : Key) (kind : Kind) → facts ≡ reverse known
     → place ≡ latest_place (has_key kind key) known → key ≡ own
     → option_and_then (at facts) place ≡ option_and_then (at (reverse known)) (latest_place (has_key kind own) known)
@@ -121,8 +121,8 @@ filter_map_same : {X Y : Type 0} (g k : X → Option Y) → ((x : X) → g x ≡
 filter_map_same g k is [] = refl
 filter_map_same g k is (x ∷ xs) = ap (λ o. cons_option o (filter_map g xs)) (is x) ∙ ap (cons_option (k x)) (filter_map_same g k is xs)
 
--- If two lists are equal, they are still equal after the element `x` is added in front of both, or
--- of neither.
+-- If two lists are equal, they remain equal after the element `x` is put in front of both lists, or
+-- of neither list.
 if_chosen : {X : Type 0} (b : Bool) (x : X) (ys zs : List X) → ys ≡ zs → cons_option (cond b (Some x) None) ys ≡ cond b (x ∷ zs) zs
 if_chosen true x ys zs is = ap (λ l. x ∷ l) is
 if_chosen false x ys zs is = is

@@ -53,7 +53,7 @@ recorded_at known facts place o is found =
     (opening_there (reverse known) place o (ap (λ (fs : List Fact). opening_at fs place) (sym is) ∙ found)))
 
 -- The interval rows (energy by quarter hour) of the first `i + 1` meters are those of the first `i`
--- meters, followed by those of meter `i`.
+-- meters, followed by those of the next meter.
 pub next_place : (known facts : List Fact) (places : List ℕ) (i d : ℕ) → i < length places
     → rows_at known facts (take (i + 1) places) ≡ rows_at known facts (take i places) ++ rows_at known facts (get_or places i d ∷ [])
 next_place known facts places i d less =
@@ -63,8 +63,8 @@ next_place known facts places i d less =
     ∙ ap rows (filter_map-append (opening_at facts) (take i places) (get_or places i d ∷ []))
     ∙ flat_map-append (rows_of_opening known) (opened (take i places)) (opened (get_or places i d ∷ []))
 
--- The interval rows of a meter equal those that a lookup by the index of the meter's installation
--- record returns.
+-- A meter has the same interval rows, whether it is looked up by its name or by the index of its
+-- installation record.
 pub rows_there : (known facts : List Fact) (place : ℕ) (o : Opening) → AreLawful known → facts ≡ reverse known → opening_at facts place ≡ Some o
     → rows_of_meter known o.meter ≡ rows_at known facts (place ∷ [])
 rows_there known facts place o lawful is there =

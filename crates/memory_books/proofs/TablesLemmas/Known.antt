@@ -1,4 +1,4 @@
--- Lemmas about the recorded installation of a meter, in records that the rules accept.
+-- Lemmas about the recorded installation of a meter, in valid records.
 use Rattle.std.proofs.Common.{◌≡◌, suc, Bool, List, [], ◌∷◌, Some, sym, subst, ◌∙◌, inl, inr, arith}
 use Rattle.std.specs.List.{find, Contains}
 use Rattle.std.proofs.lemmas.Bool.{cases_Bool, cond-true, cond-false}

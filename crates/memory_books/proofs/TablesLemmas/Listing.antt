@@ -1,4 +1,4 @@
--- Lemmas about an accounting register's installed meters, which are found through the indices of
+-- Lemmas about the meters that were installed at an accounting register. A table has the indices of
 -- their installation records.
 use Rattle.std.proofs.Common.{◌≡◌, ℕ, ◌+◌, ◌<◌, List, [], ◌∷◌, ◌++◌, map, reverse, take, length, get_or, Option, Some, None, refl, sym, ap, ◌∙◌}
 use Rattle.std.specs.List.{filter_map, cons_option}
@@ -38,8 +38,8 @@ module _ (known facts : List Fact) where
   rows_more places i d row rows more lt so_far is came =
       came ∙ ap (λ (before : List Installation). before ++ option_to_list row) so_far ∙ sym (one_there places i d row lt is)
 
-  -- If the record at an index installed a meter, then a search for the meter's name finds the
-  -- meter's state after this installation.
+  -- If the record at an index installed a meter, then lookups by the meter's name and by this index
+  -- return the same state.
   pub meter_there : AreLawful known → facts ≡ reverse known → (place : ℕ) (o : Opening) → opening_at facts place ≡ Some o
       → meter_of known o.meter ≡ option_map (installation_of known) (opening_at facts place)
   meter_there lawful is place o there_is =

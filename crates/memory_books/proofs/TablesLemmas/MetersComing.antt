@@ -1,4 +1,5 @@
--- Lemmas that the table of meters agrees with the records after one more record.
+-- Lemmas: after one more record is added to a store, the updated table of meters agrees with the
+-- store's records.
 use Rattle.std.proofs.Common.{◌≡◌, ℕ, ◌+◌, ◌≤◌, ◌<◌, Bool, true, false, cond, ◌&&◌, List, [], ◌∷◌, reverse, length, Option, Some, None, Result, Ok, refl, sym, ap, subst, ◌∙◌}
 use Rattle.std.specs.Option.{option_map}
 use Rattle.std.specs.Ordering.{is_eq}
@@ -85,8 +86,8 @@ begun old new opening key n is updates so = record {
   others = λ name apart. updates.2 (named name) (other_key opening.meter name key is apart);
 }
 
--- If a record changes neither the state nor the entries of a meter, then the meter's unchanged row
--- in the table agrees with the new records.
+-- If a new record changes neither the state nor the entries of a meter, then the meter's unchanged
+-- row still agrees with the records.
 stays_so : (f : Fact) (facts : List Fact) (meter : Option Meter) (found : Option Opening) → ((o : Opening) → found ≡ Some o → Stays f facts o)
     → IsMeter facts meter found → IsMeter (f ∷ facts) meter found
 stays_so f facts None found law is = is
@@ -100,8 +101,8 @@ pub hold_comes : HoldsChangeNothing → (b : HeldReading) (facts : List Fact) (m
 hold_comes law b facts meters are name =
     stays_so (fact.Hold b) facts (meter_at meters name) (opening_of facts name) (λ o there. law b facts o) (are name)
 
--- If a meter's row in the table agrees with the records, and its state and entries are unchanged,
--- then the row still agrees with the records.
+-- Suppose that a meter's row in the table agrees with the records. If an update leaves the row's
+-- state and entries unchanged, the row still agrees with the records.
 same_one : (facts : List Fact) (found : Option Opening) (before after : Option Meter) → IfThere IsSame before after → IsMeter facts before found → IsMeter facts after found
 same_one facts found None after gone is = subst (λ (m : Option Meter). IsMeter facts m found) (sym gone) is
 same_one facts found (Some m) after (n, there, so) is =
@@ -115,8 +116,8 @@ same_meters facts old new meter changes are name =
     (same_one facts (opening_of facts meter) (meter_at old meter) (meter_at new meter) changes.own (are meter)))
     (λ apart. subst (λ (m : Option Meter). IsMeter facts m (opening_of facts name)) (sym (changes.others name apart)) (are name))
 
--- If a record concerns one meter, then the meters in the table with other names still agree with
--- the records.
+-- Suppose that a new record concerns one meter, and that only this meter's row in the table changes
+-- and is correct. Then the table of meters agrees with the records.
 line_comes : OtherMetersStay → (f : Fact) (facts : List Fact) (old new : Meters) (meter : List ℕ) (became : Option Meter → Option Meter → Type 0)
     → ((name : List ℕ) → opening_of (f ∷ facts) name ≡ opening_of facts name) → ((name : List ℕ) → same meter name ≡ false → line_of name f ≡ None)
     → Changes meter became old new → IsMeter (f ∷ facts) (meter_at new meter) (opening_of facts meter) → AreMeters old facts → AreMeters new (f ∷ facts)
@@ -239,8 +240,8 @@ opening_comes law others facts o old new lawful changes are name =
     (subst (λ (x : Option Meter). IsMeter later x (opening_of facts name)) (sym (changes.others name apart))
     (stays_so (fact.Opening o) facts (meter_at old name) (opening_of facts name) (λ p there. others (fact.Opening o) facts p refl) (are name))))
 
--- If a search by name finds a meter in the table of meters, then its state and its entries equal
--- those of the records.
+-- If a search by name finds a meter in the table of meters, its state and entries are those that
+-- follow from the records.
 pub stands_at : (facts : List Fact) (meters : Meters) (name : List ℕ) (key : Key) (m : Meter) → key ≡ named name → Some m ≡ get_by (key_cmp key) meters.meters
     → AreMeters meters facts → Stands facts m (opening_of facts name)
 stands_at facts meters name key m is there are =

@@ -40,8 +40,8 @@ some_before : (row : EntryRow) (o : Option journal.Around) (x : journal.Around) 
 some_before row None x h = absurd (cc)
 some_before row (Some y) x h = (y, refl)
 
--- If an entry row with a sequence number exists, then the number is at least 2 and at most the
--- number of rows plus 1.
+-- If a meter has an entry row with the sequence number `place`, then `place` is from 2 to the
+-- number of entry rows plus 1.
 pub row_inside : (place : ℕ) (rows : List EntryRow) (x : journal.Around) → AreNumbered rows → journal.row_at place rows ≡ Some x
     → (2 ≤ place) × (place < length rows + 2)
 row_inside place [] x h is = absurd (cc)

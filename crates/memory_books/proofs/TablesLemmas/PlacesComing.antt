@@ -1,4 +1,5 @@
--- Lemmas that a table of record indices by key agrees with the records after one more record.
+-- Lemmas: after one more record is added to a store, the updated table of record indices by key
+-- agrees with the store's records.
 use Rattle.std.proofs.Common.{◌≡◌, ℕ, cond, List, [], ◌∷◌, ◌++◌, reverse, length, Some, sym, ap, ◌∙◌, inl, inr, Result, Ok, Err, OnOk, OnErr}
 use Rattle.std.specs.BTreeMap.{BTreeMap, get, get_by}
 use Rattle.std.specs.declared.vec.Vec.{Vec}
@@ -12,8 +13,8 @@ use Rattle.memory_books.specs.Tables.Keys.{key_cmp, is_same_key}
 use Rattle.memory_books.specs.Tables.Places.{key_in, is_key, has_key, places_of, under}
 use Rattle.memory_books.proofs.TablesLemmas.SameKeys.{is_eq-key_cmp, one_key}
 
--- After a record's index is added to a table under the record's key only, the table's indices agree
--- with the records.
+-- Suppose that a new record's index is appended to the table's list for the record's key, and to no
+-- other list. Then the table agrees with the records.
 pub place_comes : (kind : Kind) (known : List Fact) (f : Fact) (key : Key) (place : ℕ) (before after : Key → List ℕ) → length known ≡ place → key_in kind f ≡ Some key
     → ((other : Key) → before other ≡ reverse (places_of (has_key kind other) known))
     → ((other : Key) → after other ≡ cond (is_eq (key_cmp key other)) (before key ++ place ∷ []) (before other))
@@ -33,8 +34,8 @@ place_comes kind known f key place before after long own says adds other =
           ∙ sym (ap reverse (cond-false _ _ _ (has ∙ e)))
     ]
 
--- If a list of indices in a table is replaced by an equal list, then the indices under each key are
--- unchanged.
+-- If a table's list of indices for one key is replaced by an equal list, then the lists for all
+-- keys are unchanged.
 pub kept_under : {Z : Type 0} (old new : BTreeMap Key (Vec ℕ Z)) (key : Key) (w v : Vec ℕ Z) → get_by (key_cmp key) old ≡ Some v → w.items ≡ v.items
     → ((q : Key) → get key_cmp new q ≡ cond (is_eq (key_cmp key q)) (Some w) (get key_cmp old q))
     → (other : Key) → under (get key_cmp new other) ≡ under (get key_cmp old other)
@@ -46,8 +47,8 @@ kept_under old new key w v there same updates other =
       | inr e ↦ ap under (updates other ∙ cond-false _ _ _ (is_eq-key_cmp key other ∙ e))
     ]
 
--- If a property of a call's `Ok` result holds, then every property that follows from it also holds
--- for the result.
+-- If the property P holds whenever a call returns `Ok`, and P implies Q, then Q holds whenever the
+-- call returns `Ok`.
 pub on_ok_then : {T E P Q : Type 0} (r : Result T E) → (P → Q) → OnOk r P → OnOk r Q
 on_ok_then (Ok x) f h = f h
 on_ok_then (Err e) f h = tt

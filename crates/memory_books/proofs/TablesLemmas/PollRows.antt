@@ -1,4 +1,5 @@
--- Lemmas that the tables of polls agree with the records after one more record.
+-- Lemmas: after one more record is added to a store, the updated tables of polls agree with the
+-- store's records.
 use Rattle.std.proofs.Common.{◌≡◌, ◌⊎◌, ℕ, ◌-◌, ◌<◌, ◌≤◌, ◌==◌, Bool, true, false, cond, ◌&&◌, not, List, [], ◌∷◌, ◌++◌, map, reverse, length, get_or, Option, None, refl, sym, ap, ◌∙◌, inl, inr, arith}
 use Rattle.std.specs.Prelude.{is_some, slice_set}
 use Rattle.std.specs.List.{find, filter, slice_get}
@@ -21,7 +22,7 @@ use Rattle.office_books.specs.Readings.{poll_row, poll_row_of}
 use Rattle.office_books.proofs.Lists.{reverse_cons, get_last, get_others}
 use Rattle.memory_books.specs.Tables.Polls.{row_with_end, polls_but}
 
--- If the rules accept the records, then their polls are numbered consecutively from 1.
+-- If the records are valid, then their polls are numbered consecutively from 1.
 pub numbered : (known : List Fact) → AreLawful known → AreNumbered (polls_in known)
 numbered [] h = tt
 numbered (fact.Device d ∷ known) h = numbered known h.1
@@ -49,7 +50,7 @@ number_within n (p ∷ polls) h there =
           (rest.0, omega (arith, rest.1))
     ]
 
--- True if the records have no outcome of the poll with number `n`.
+-- True if the records have no outcome of the poll with the given number.
 abbrev pub NoEnd : List Fact → ℕ → Type 0
 NoEnd known n = (ends_of known n ≡ []) × (end_of known n ≡ None)
 
@@ -103,7 +104,7 @@ rows_past known e (p ∷ polls) h beyond =
     ∙ ap (λ (row : PollRow). map (poll_row known) (reverse polls) ++ row ∷ []) one
     ∙ sym (ap (map (poll_row known)) (reverse_cons p polls) ∙ map-append (poll_row known) (reverse polls) (p ∷ []))
 
--- The rows of all polls after the poll at index `i` gets the outcome `e`.
+-- The rows of all polls after the poll at an index gets an outcome.
 abbrev ended_in_place : EndedPoll → PollRow → List PollRow → ℕ → List PollRow
 ended_in_place e d rows i = slice_set rows i (row_with_end e (get_or rows i d))
 

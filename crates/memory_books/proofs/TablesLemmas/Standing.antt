@@ -9,7 +9,7 @@ use Rattle.office_books.proofs.Lists.{reverse_cons, get_last, get_others}
 use Rattle.memory_books.specs.Tables.Places.{places_of}
 use Rattle.memory_books.proofs.TablesLemmas.Turned.{filter_map_reverse}
 
--- True if all indices in a list are below `n`.
+-- True if all indices in a list are below the given number.
 abbrev Below : ℕ → List ℕ → Type 0
 Below n [] = Unit {0}
 Below n (x ∷ xs) = (x < n) × Below n xs
@@ -40,7 +40,8 @@ last_stands : (f : Fact) (known : List Fact) → slice_get (reverse (f ∷ known
 last_stands f known =
     ap (λ (fs : List Fact). slice_get fs (length known)) (reverse_cons f known) ∙ get_last (reverse known) f (length known) (sym (length-reverse known))
 
--- The records at the indices that a test selects equal the records that pass the test.
+-- Suppose that a test selects the indices of some records. The records at these indices are exactly
+-- the records that pass the test.
 facts_at : (p : Fact → Bool) (known : List Fact) → filter_map (slice_get (reverse known)) (places_of p known) ≡ filter p known
 facts_at p [] = refl
 facts_at p (f ∷ known) =
@@ -67,7 +68,7 @@ first_at p (f ∷ known) =
           ∙ first_at p known ∙ sym (cond-false _ _ _ e)
     ]
 
--- True if a record contains a value of the wanted kind, and the value passes the test `q`.
+-- True if a record contains a value of the wanted kind, and the value passes the test.
 abbrev pub passes : {Y : Type 0} → (Y → Bool) → Option Y → Bool
 passes q None = false
 passes q (Some y) = q y
@@ -87,8 +88,8 @@ filter_map-cond : {X Y : Type 0} (h : X → Option Y) (b : Bool) (x : X) (xs : L
 filter_map-cond h true x xs = refl
 filter_map-cond h false x xs = refl
 
--- Selecting records by a test and then by kind yields the same records as selecting by kind and
--- then by an equivalent test.
+-- Filtering records by a test and then selecting one kind has the same result as selecting the kind
+-- and then filtering by an equivalent test.
 of_kind : {X Y : Type 0} (h : X → Option Y) (p : X → Bool) (q : Y → Bool) → ((x : X) → p x ≡ passes q (h x)) → (xs : List X)
     → filter_map h (filter p xs) ≡ filter q (filter_map h xs)
 of_kind h p q is [] = refl
@@ -127,8 +128,8 @@ pub filter_map_twice : {X Y Z : Type 0} (g : X → Option Y) (h : Y → Option Z
 filter_map_twice g h [] = refl
 filter_map_twice g h (x ∷ xs) = cons_twice h (g x) (filter_map (λ y. option_and_then h (g y)) xs) (filter_map g xs) (filter_map_twice g h xs)
 
--- The records of one kind that pass a test, found by their indices in the list, in the order in
--- which they were added.
+-- A test selects the indices of records of one kind. The records at these indices are the records
+-- of this kind that pass the test, in the order in which they were added.
 pub all_at : {Y : Type 0} (h : Fact → Option Y) (p : Fact → Bool) (q : Y → Bool) → ((f : Fact) → p f ≡ passes q (h f)) → (known : List Fact)
     → filter_map (λ i. option_and_then h (slice_get (reverse known) i)) (reverse (places_of p known)) ≡ reverse (filter q (filter_map h known))
 all_at h p q is known =
@@ -136,7 +137,8 @@ all_at h p q is known =
     ∙ ap (filter_map h) (filter_map_reverse (slice_get (reverse known)) (places_of p known) ∙ ap reverse (facts_at p known))
     ∙ filter_map_reverse h (filter p known) ∙ ap reverse (of_kind h p q is known)
 
--- The record at the latest selected index is the latest record of its kind that passes the test.
+-- A test selects the indices of records of one kind. The record at the latest of these indices is
+-- the latest record of this kind that passes the test.
 pub latest_at : {Y : Type 0} (h : Fact → Option Y) (p : Fact → Bool) (q : Y → Bool) → ((f : Fact) → p f ≡ passes q (h f)) → (known : List Fact)
     → option_and_then (λ i. option_and_then h (slice_get (reverse known) i)) (slice_get (places_of p known) 0) ≡ find q (filter_map h known)
 latest_at h p q is known =
@@ -157,7 +159,8 @@ count_at : {Y : Type 0} (h : Fact → Option Y) (p : Fact → Bool) (q : Y → B
 count_at h p q is [] = refl
 count_at h p q is (f ∷ known) = count_step q (h f) (p f) (length known) (places_of p known) (filter_map h known) (is f) (count_at h p q is known)
 
--- As many indices are selected as records of the kind pass the test.
+-- A test selects the indices of records of one kind. There are as many selected indices as records
+-- of this kind that pass the test.
 pub counted_at : {Y : Type 0} (h : Fact → Option Y) (p : Fact → Bool) (q : Y → Bool) → ((f : Fact) → p f ≡ passes q (h f)) → (known : List Fact)
     → length (reverse (places_of p known)) ≡ length (reverse (filter q (filter_map h known)))
 counted_at h p q is known =

@@ -1,5 +1,5 @@
--- Lemmas about the query that adds up energy by quarter hour. It passes each interval row to a sink
--- when no more energy of the quarter hour can follow.
+-- Lemmas about the query that adds up energy by quarter hour. The query passes a quarter hour's row
+-- to a sink as soon as no further energy can belong to this quarter hour.
 use Rattle.std.proofs.Common.{◌≡◌, ◌+◌, ◌*◌, ◌^◌, ◌<◌, ◌≤◌, List, [], ◌∷◌, ◌++◌, Option, Some, None, refl, sym, ap, subst, ◌∙◌, arith, append_assoc}
 use Rattle.std.specs.Option.{ForSome, option_to_list}
 use Rattle.std.proofs.lemmas.List.{append-nil}
@@ -14,8 +14,8 @@ use Rattle.office_books.specs.Rows.{TakesAll}
 use Rattle.office_books.proofs.Handing.{takes_more, takes_both}
 use Rattle.memory_books.specs.Tables.IntervalRows.{TookBut, Passes}
 
--- After more quarter-hour energies are added, only the last interval row changes, and new rows
--- follow it.
+-- If further quarter-hour energies are added to a list of interval rows, only the last row can
+-- change. New rows are appended after it.
 after_last : (done : List Share) (row : Share) (shares : List Share) → with_shares (done ++ row ∷ []) shares ≡ done ++ with_shares (row ∷ []) shares
 after_last [] row shares = refl
 after_last (first ∷ []) row shares = refl
@@ -32,8 +32,8 @@ no_done : (done rows : List Share) (waits : Option Share) → rows ≡ done ++ o
 no_done [] rows waits is none w = refl
 no_done (first ∷ done) rows waits is none w = absurd (let e : first ∷ (done ++ option_to_list waits) ≡ [] = sym is ∙ none w in cc)
 
--- After more quarter-hour energies are added, the sink has received all interval rows except the
--- last, which may still grow.
+-- If further quarter-hour energies are processed, the sink has received all resulting interval rows
+-- except the last row, to which more energy may be added.
 pub took_more : {S : Type 0} (takes : S → Share → S → Type 0) (before now after : S) (waited waits : Option Share) (rows shares : List Share)
     → TookBut takes before now waited rows → Passes takes now after waited waits shares → TookBut takes before after waits (with_shares rows shares)
 took_more takes before now after waited waits rows shares took passes = record {

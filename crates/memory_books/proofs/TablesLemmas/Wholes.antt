@@ -16,8 +16,8 @@ use Rattle.memory_books.proofs.TablesLemmas.Coming.{come_with}
 places_come_with : (kind : Kind) (kept : Kept Places) (facts more : List Fact) → HasPlaces kind kept facts → HasPlaces kind kept (facts ++ more)
 places_come_with kind kept facts more has = record { come = come_with ArePlaces kept facts more has.come; kind_is = has.kind_is }
 
--- After the store gets more records, each lookup table still agrees with the records that were
--- added to the table.
+-- If records are appended to the store's list, each lookup table still agrees with the earlier
+-- records, for which it was already updated.
 pub have_come_with : (tables : Tables) (facts more : List Fact) → HaveCome tables facts → HaveCome tables (facts ++ more)
 have_come_with tables facts more come = record {
   polls = come_with ArePolls tables.polls facts more come.polls;
@@ -30,8 +30,8 @@ have_come_with tables facts more come = record {
   meters = come_with AreMeters tables.meters facts more come.meters;
 }
 
--- After an update, a table of record indices still has the same kind, and agrees with the records
--- that were added to it.
+-- Updating a table of record indices does not change its kind. Afterwards the table agrees with all
+-- records for which it was updated.
 pub further : (kind : Kind) (old new : Kept Places) (facts : List Fact) → HasPlaces kind old facts → (HasCome ArePlaces old facts → HasCome ArePlaces new facts)
     → Some new.table.kind ≡ Some old.table.kind → HasPlaces kind new facts
 further kind old new facts has come same_kind =

@@ -8,7 +8,7 @@ use Rattle.office_books.specs.Facts.{same}
 use Rattle.memory_books.specs.declared.kept.keys.Key.{Key}
 use Rattle.memory_books.specs.declared.kept.answers.Answers.{Answers}
 
--- The order of a cache's keys, which are names, by the bytes of the names.
+-- Compares two keys of a cache. Keys are names, and are ordered by their bytes.
 abbrev pub key_cmp : Key → Key → Ordering
 key_cmp = on (λ k. k.name) (slice_cmp nat_cmp)
 
@@ -16,11 +16,11 @@ key_cmp = on (λ k. k.name) (slice_cmp nat_cmp)
 abbrev pub answer_to : {T : Type 0} → Answers T → List ℕ → Option T
 answer_to answers name = get key_cmp answers.rows (record { name = name })
 
--- True if each cached lookup result has the property `so`, which may depend on the result's name.
+-- True if each cached lookup result has the given property, which may depend on the result's name.
 abbrev pub EachIs : {T : Type 0} → (List ℕ → T → Type 0) → Answers T → Type 0
 EachIs {T} so answers = (name : List ℕ) (x : T) → answer_to answers name ≡ Some x → so name x
 
--- True if the cache of lookup results is unchanged, or changed only by adding the result `x` for
+-- True if the cache of lookup results is unchanged, or changed only by adding the given result for
 -- `name`.
 abbrev pub MayAnswer : {T : Type 0} → (name : List ℕ) → T → (before after : Answers T) → Type 0
 MayAnswer name x before after = (other : List ℕ)

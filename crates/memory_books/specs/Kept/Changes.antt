@@ -41,11 +41,11 @@ pub record StaysKept (old new : Known) : Type 0 where
   pub registers : SameRegisters old new
   pub standing : SameStanding old new
 
--- The effect of a new record on the cache. A new point list removes the old point list of its
--- device, and a new accounting register removes the register list of its device.
+-- The effect of a new record on the cache. A new point list removes the cached point list of its
+-- device, and a new accounting register removes the cached register list of its device.
 --
--- An installation of a meter removes the states of all meters from the cache, and a void (a
--- cancelled entry) removes the state of its meter. An entry advances the state of its meter.
+-- An installation of a meter removes the cached states of all meters, and a void (a cancelled
+-- entry) removes that of its meter. An entry advances the cached state of its meter.
 abbrev pub Changes : Fact → (old new : Known) → Type 0
 Changes (fact.List put) old new =
     Forgets put.device old.lists new.lists × SameRegisters old new × SameStanding old new

@@ -7,9 +7,8 @@ use Rattle.memory_books.specs.declared.kept.known.Known.{Known}
 use Rattle.memory_books.specs.declared.kept.kept.CachedBooks.{CachedBooks}
 use Rattle.memory_books.specs.Kept.Known.{AreTrue}
 
--- The model of a store with a cache. It equals the model of the store from which results are
--- cached. In addition, the cache agrees with the records, unless that store may have returned a
--- wrong result.
+-- The model of a store with a cache. It is the model of the underlying store, with one more
+-- property: if this store returned no wrong result, the cache agrees with the records.
 abbrev pub keeping : Known → Ledger → Ledger
 keeping kept under = record {
   holds = λ facts. under.holds facts × (under.is_clean → AreTrue kept facts);
@@ -20,7 +19,7 @@ keeping kept under = record {
   zone = under.zone;
 }
 
--- The store from which a store with a cache caches lookup results.
+-- The underlying store of a store with a cache: the store whose lookup results are cached.
 abbrev pub beneath : {B : Type 0} → CachedBooks B → B
 beneath kept = kept.books
 
@@ -29,7 +28,7 @@ beneath kept = kept.books
 abbrev pub ledger_over : {B : Type 0} → (B → Ledger) → CachedBooks B → Ledger
 ledger_over ledger kept = keeping kept.known (ledger kept.books)
 
--- True if two stores have the same state. They have the same records, the same records may remain
+-- True if two stores have the same state. Both have the same records, the same records may remain
 -- after a crash, and all other properties are equal.
 pub record StandsAs (before after : Ledger) : Type 0 where
   pub facts : (facts : List Fact) → before.holds facts → after.holds facts

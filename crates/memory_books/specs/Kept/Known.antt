@@ -8,8 +8,8 @@ use Rattle.memory_books.specs.Kept.Answers.{EachIs}
 use Rattle.memory_books.specs.Kept.Polls.{PollsAreTrue}
 use Rattle.memory_books.specs.declared.kept.known.Known.{Known}
 
--- True if `row` is the state of this meter by the records, and the meter is the latest at its
--- accounting register.
+-- True if `row` is the state of this meter that follows from the records, and no meter was
+-- installed later at the same accounting register.
 pub record IsLatest (facts : List Fact) (meter : List ℕ) (row : Installation) : Type 0 where
   pub own : row.opening.meter ≡ meter
   pub there : installed_at facts row.opening.register ≡ Some row.opening

@@ -39,15 +39,15 @@ pub record WaitsNoMore (number : ℕ) (before after : Polls) : Type 0 where
   pub others : (other : ℕ) → (number == other) ≡ false
       → waiting_at after other ≡ waiting_at before other
 
--- The effect of a poll's start on the cached number of polls. The number is increased by one, or is
--- no longer cached.
+-- The effect of a poll's start on the cached number of polls. The cached number is increased by
+-- one, or removed from the cache.
 abbrev pub GoesUp : (before after : Option ℕ) → Type 0
 GoesUp before after = (count : ℕ) → after ≡ Some count
     → (less : ℕ) × (before ≡ Some less) × (count ≡ less + 1)
 
 -- The effect of a new record on the cached polls. The start of a poll increases the cached number
--- of polls, and may cache the poll. An outcome removes its poll from the cache. Other records
--- change nothing.
+-- of polls, and can add the poll to the cache. An outcome removes its poll from the cache. Other
+-- records change nothing.
 abbrev pub PollsChange : Fact → (before after : Polls) → Type 0
 PollsChange (fact.Poll poll) before after =
     MayWait poll before after × GoesUp before.started after.started

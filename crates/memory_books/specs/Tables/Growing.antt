@@ -1,15 +1,16 @@
--- Definition of when a lookup table agrees with records that were added one by one. Before a
--- lookup, the records that the table still lacks are added to it.
+-- Defines when a lookup table agrees with the store's records. A table is updated for the records
+-- one by one. A lookup first updates the table for the records that it lacks.
 use Rattle.std.specs.Prelude.{◌≤◌, List, reverse, take, length}
 use Rattle.office_events.specs.declared.facts.Fact.{Fact}
 use Rattle.memory_books.specs.declared.tables.table.Kept.{Kept}
 
--- The list of records with the latest first, from a list with the earliest first.
+-- Reverses a list of records. The argument begins with the earliest record, the result with the
+-- latest.
 abbrev pub latest_first : List Fact → List Fact
 latest_first facts = reverse facts
 
--- True if the lookup table agrees with the first `count` records of the list, where `count` is the
--- number of records added to the table.
+-- True if the lookup table was updated for the first `kept.count` records of the list, and agrees
+-- with these records.
 pub record HasCome {T : Type 0} (says : T → List Fact → Type 0) (kept : Kept T)
     (facts : List Fact) : Type 0 where
   pub few : kept.count ≤ length facts

@@ -17,8 +17,8 @@ use Rattle.office_events.specs.declared.facts.Fact.{Fact}
 use Rattle.office_books.specs.Intervals.{rows_of_opening}
 use Rattle.memory_books.specs.Tables.Lookups.{opening_at}
 
--- True if the sink received all of these quarter-hour rows except the last row, which is still in
--- `waits`.
+-- True if the sink received all of these quarter-hour rows except the last row. The last row is
+-- kept back, because more energy may be added to it.
 pub record TookBut {S : Type 0} (takes : S → Share → S → Type 0) (before after : S)
     (waits : Option Share) (rows : List Share) : Type 0 where
   pub done : List Share
@@ -26,8 +26,8 @@ pub record TookBut {S : Type 0} (takes : S → Share → S → Type 0) (before a
   pub rows_are : rows ≡ done ++ option_to_list waits
   pub none : waits ≡ None → rows ≡ []
 
--- The effect of further quarter-hour energies on the sink of quarter-hour rows. The sink received
--- all finished rows, and the last row is in `waits`.
+-- The effect of further quarter-hour energies on the sink of quarter-hour rows. The sink receives
+-- each finished row. The last row is kept back, because more energy may be added to it.
 pub record Passes {S : Type 0} (takes : S → Share → S → Type 0) (before after : S)
     (waited waits : Option Share) (shares : List Share) : Type 0 where
   pub done : List Share
@@ -50,8 +50,8 @@ abbrev pub TakesWithin : {S : Type 0} → (takes : S → Share → S → Type 0)
     → Share → (after : S) → Type 0
 TakesWithin takes span before row after = TakesAll takes before (rows_within span (row ∷ [])) after
 
--- True if the sink received the quarter-hour rows of a meter, provided that the rules accept the
--- meter's valid entries one after another.
+-- States that, if the rules accept the meter's valid entries one after another, the sink received
+-- the quarter-hour rows of the meter.
 abbrev pub TakesRowsOf : {S : Type 0} → (takes : S → Share → S → Type 0) → (before : S)
     → Installed → List EntryRow → (after : S) → Type 0
 TakesRowsOf takes before meter rows after =

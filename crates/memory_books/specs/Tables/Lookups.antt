@@ -1,5 +1,5 @@
--- Definitions of the content of the record at an index of the list of records. Index 0 is the
--- record that was added first.
+-- Defines what the record at a given index of the list of records contains. Index 0 is the record
+-- that was added first.
 use Rattle.std.specs.Prelude.{ℕ, List, Option, Some, None, if◌then◌else◌}
 use Rattle.std.specs.List.{slice_get}
 use Rattle.std.specs.Option.{option_and_then, option_map}
@@ -18,12 +18,13 @@ use Rattle.office_books.specs.Readings.{is_read_by}
 abbrev pub listed : Fact → Option Planned
 listed f = option_and_then (λ put. if_some put.list.points put.list) (as_list f)
 
--- Compares a request with the request in a record, or returns `None` if the record has no request.
+-- Compares the given request with the request that is stored in a record, or returns `None` if the
+-- record has no request.
 abbrev pub repeated : (request : List ℕ) → Fact → Option Repeat
 repeated request f = option_map (as_repeat request) (as_reply f)
 
--- The accounting register in the record at index `place` of the list of records, or `None` if the
--- record is of another kind.
+-- The accounting register in the record at an index of the list of records, or `None` if the record
+-- is of another kind.
 abbrev pub register_at : List Fact → ℕ → Option Register
 register_at facts place = option_and_then as_register (slice_get facts place)
 
@@ -37,22 +38,22 @@ if_read span register = if is_read_by span register then Some register else None
 abbrev pub register_read : ReadSpan → Fact → Option Register
 register_read span f = option_and_then (if_read span) (as_register f)
 
--- The accounting register in the record at index `place`, or `None` if the record has no accounting
+-- The accounting register in the record at an index, or `None` if the record has no accounting
 -- register that the Modbus read covers.
 abbrev pub register_read_at : ReadSpan → List Fact → ℕ → Option Register
 register_read_at span facts place = option_and_then (register_read span) (slice_get facts place)
 
--- The opening, which is the record that installs a meter, at index `place` of the records. `None`
--- if the record at the index is of another kind.
+-- The opening, which is the record that installs a meter, at an index of the records. `None` if the
+-- record at the index is of another kind.
 abbrev pub opening_at : List Fact → ℕ → Option Opening
 opening_at facts place = option_and_then as_opening (slice_get facts place)
 
--- The point list (the Modbus registers to read) in the record at index `place`. `None` if the
--- record has no point list or the list has no points.
+-- The point list (the Modbus registers to read) in the record at an index. `None` if the record has
+-- no point list or the list has no points.
 abbrev pub list_at : List Fact → ℕ → Option Planned
 list_at facts place = option_and_then listed (slice_get facts place)
 
--- Compares a request with the request in the record at index `place`, or returns `None` if the
--- record has no request.
+-- Compares the given request with the request that is stored in the record at an index, or returns
+-- `None` if the record has no request.
 abbrev pub repeat_at : (request : List ℕ) → List Fact → ℕ → Option Repeat
 repeat_at request facts place = option_and_then (repeated request) (slice_get facts place)

@@ -16,22 +16,22 @@ use Rattle.memory_books.specs.Tables.Moving.{HasBegun}
 abbrev pub meter_at : Meters → List ℕ → Option Meter
 meter_at meters name = get key_cmp meters.meters (named name)
 
--- True if the record that installed the meter exists, and the state and the entry rows in the table
--- equal those of the records.
+-- True if the meter's installation is recorded, and the meter's state and entry rows in the table
+-- are those that follow from the records.
 pub record Stands (known : List Fact) (meter : Meter) (found : Option Opening) : Type 0 where
   pub opening : Opening
   pub there : found ≡ Some opening
   pub row : meter.row ≡ installation_of known opening
   pub rows : lists.latest_first meter.rows.items ≡ rows_of known opening
 
--- True if the table has a meter exactly if its installation is recorded, and the meter's state and
--- entries equal those of the records.
+-- States that the table has a row for a meter if and only if the meter's installation is recorded.
+-- The row's state and entries must be those that follow from the records.
 abbrev pub IsMeter : List Fact → Option Meter → Option Opening → Type 0
 IsMeter known None found = found ≡ None
 IsMeter known (Some meter) found = Stands known meter found
 
 -- True if the table has exactly the recorded meters, and the state and the entries of each meter
--- equal those of the records.
+-- are those that follow from the records.
 abbrev pub AreMeters : Meters → List Fact → Type 0
 AreMeters meters known =
     (name : List ℕ) → IsMeter known (meter_at meters name) (opening_of known name)
@@ -49,7 +49,7 @@ abbrev pub Begins : Opening → Option Meter → Option Meter → Type 0
 Begins opening old new = (meter : Meter) × (new ≡ Some meter) × HasBegun opening meter
 
 -- The effect of a record about a meter on the table of meters. If the meter is in the table, then
--- it changes as `became` describes. Otherwise it is still not in the table.
+-- it changes as the given relation describes. Otherwise it is still not in the table.
 abbrev pub IfThere : (Meter → Meter → Type 0) → Option Meter → Option Meter → Type 0
 IfThere became None new = new ≡ None
 IfThere became (Some old) new = (meter : Meter) × (new ≡ Some meter) × became old meter

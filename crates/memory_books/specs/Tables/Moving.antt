@@ -23,7 +23,8 @@ pub record HasBegun (opening : Opening) (meter : Meter) : Type 0 where
   pub rows : meter.rows.items ≡ []
 
 -- The effect of an entry on its meter in the table. The meter has one more entry row. The entry
--- advances the meter's state if the meter's numbers are in range and the rules accept the entry.
+-- advances the meter's state if the meter's numbers are in range and the accounting rules accept
+-- the entry.
 pub record HasEntered (booked : BookedEntry) (old new : Meter) : Type 0 where
   pub row : IsSound old.row → MayEnter old.row booked.entry
       → new.row ≡ moved_by booked.kind booked.entry old.row
@@ -54,14 +55,14 @@ pub record HasStruck (place : ℕ) (old new : Meter) : Type 0 where
       → new.row ≡ standing old.row.opening (journal.entries_in (lists.latest_first new.rows.items))
       old.row.ended
 
--- True if the meter's state and entry rows in the table are those that follow from the records. `o`
--- is the record that installed the meter.
+-- True if the meter's state and entry rows in the table are those that follow from the records.
+-- `opening` is the record that installed the meter.
 pub record IsAsSaid (known : List Fact) (opening : Opening) (meter : Meter) : Type 0 where
   pub row : meter.row ≡ installation_of known opening
   pub rows : lists.latest_first meter.rows.items ≡ rows_of known opening
 
--- True if the property `so` holds for all valid records, and each recorded installation of a meter,
--- with which this meter of the table agrees.
+-- States that a property holds for all valid records and each recorded installation with which this
+-- meter of the table agrees.
 abbrev pub WhereSaid : Meter → (List Fact → Opening → Type 0) → Type 0
 WhereSaid meter so =
     (known : List Fact) (opening : Opening) → AreLawful known → IsRecorded known opening

@@ -65,7 +65,7 @@ key_in kind (fact.Poll poll) = None
 key_in kind (fact.Outcome ended) = None
 key_in kind (fact.Reply reply) = reply_key kind reply
 
--- True if the optional key is present and equal to `key`.
+-- True if the optional key is present and equal to the given key.
 abbrev pub is_key : Key → Option Key → Bool
 is_key key None = false
 is_key key (Some own) = is_same_key own key
@@ -89,8 +89,8 @@ under (Some places) = places.items
 abbrev pub latest_place : (Fact → Bool) → List Fact → Option ℕ
 latest_place p known = slice_get (places_of p known) 0
 
--- True if the record index `place` was appended to the indices under `key`, and the indices under
--- all other keys are unchanged.
+-- True if the record index `place` was appended to the indices under the given key, and the indices
+-- under all other keys are unchanged.
 abbrev pub HaveOneMore : Key → (place : ℕ) → (before after : Places) → Type 0
 HaveOneMore key place before after =
     (other : Key) → under (get key_cmp after.places other)
@@ -109,6 +109,7 @@ ArePlacesOf kind places known =
     (key : Key) → under (get key_cmp places.places key)
     ≡ reverse (places_of (has_key kind key) known)
 
--- True if the indices in the table are those of the records of the kind that the table indexes.
+-- True if the table has the indices of exactly those records that a table of its kind indexes, each
+-- under the record's key.
 abbrev pub ArePlaces : Places → List Fact → Type 0
 ArePlaces places known = ArePlacesOf places.kind places known

@@ -12,14 +12,14 @@ use Rattle.memory_books.specs.Tables.Meters.{AreMeters}
 use Rattle.memory_books.specs.Tables.Places.{ArePlaces, ArePlacesOf}
 use Rattle.memory_books.specs.Tables.Polls.{ArePolls, ArePending}
 
--- True if the table of record indices has this kind, and agrees with the records that were added to
--- the table.
+-- True if the table of record indices has this kind, and agrees with the first records of the list,
+-- for which it was already updated.
 pub record HasPlaces (kind : Kind) (kept : Kept Places) (facts : List Fact) : Type 0 where
   pub come : HasCome ArePlaces kept facts
   pub kind_is : kept.table.kind ≡ kind
 
--- True if each lookup table of the store agrees with the records that were added to this table,
--- which are the first records of the list.
+-- True if each lookup table of the store agrees with those first records of the list for which this
+-- table was already updated.
 pub record HaveCome (tables : Tables) (facts : List Fact) : Type 0 where
   pub polls : HasCome ArePolls tables.polls facts
   pub pending : HasCome ArePending tables.pending facts
@@ -42,8 +42,8 @@ pub record AreWhole (tables : Tables) (known : List Fact) : Type 0 where
   pub replies : ArePlacesOf Replies tables.replies.table known
   pub meters : AreMeters tables.meters.table known
 
--- True if the property `so` holds for all valid records with which all lookup tables agree. `facts`
--- are these records in the order in which they were added.
+-- States that, if the records `facts` are valid and all lookup tables agree with them, a property
+-- holds for these records. The property gets the records in reverse order, the latest first.
 abbrev pub WhereWhole : Tables → (facts : List Fact) → (List Fact → Type 0) → Type 0
 WhereWhole tables facts so =
     (known : List Fact) → facts ≡ reverse known → AreLawful known → AreWhole tables known → so known

@@ -10,7 +10,8 @@ ghost use Rattle.std.specs.Ordering.{nat_cmp, on, as_partial_cmp};
 use office_events::Name;
 use std::cmp::Ordering;
 
-/// The key of a cached result. Keys have a name and are ordered by its bytes.
+/// The key of a cached result. A key consists of a name, and keys are ordered by the bytes of their
+/// names.
 #[derive(Clone, Copy)]
 pub(crate) struct Key {
     pub(crate) name: Name,

@@ -32,11 +32,12 @@ pub(crate) struct Known {
     lists: Answers<PlannedList>,
     /// The accounting registers (named energy counters) of each device, by the device's name.
     registers: Answers<Vec<Register>>,
-    /// The state of the latest meter at each accounting register (a named energy counter), by the
-    /// name of the meter.
+    /// The states of meters, by the meter's name. A meter has a state here only if it was installed
+    /// last at its accounting register (a named energy counter).
     standing: Answers<Installation>,
-    /// The name of the latest meter at each accounting register (a named energy counter), by the
-    /// register's name. The name may be outdated if a later meter was installed.
+    /// The name of the meter that was installed last at each accounting register (a named energy
+    /// counter), by the register's name. The name is not updated when another meter is installed
+    /// later.
     meters: Answers<Name>,
     /// The cached pending polls, and the cached number of started polls.
     polls: Polls,
@@ -75,8 +76,8 @@ impl Known {
         }
     }
 
-    /// Returns the number of Modbus reads in the plan of a device, or `None` if the device's point
-    /// list is not cached.
+    /// Returns the number of Modbus reads in a device's plan, or `None` if the device's point list
+    /// is not cached. The plan has the reads that cover the point list.
     pub(crate) fn read_count(&self, device: &Name) -> Option<usize>
         ensures { (known : List Fact) → AreTrue self.now known
             → IfSome result (λ n. read_count_of (list_of known device.now) ≡ Some n) }
@@ -87,8 +88,9 @@ impl Known {
         }
     }
 
-    /// Returns at most `most` Modbus reads of the device's plan from index `from` on, or `None` if
-    /// the point list is not cached or memory runs out.
+    /// Returns at most `most` Modbus reads of the device's plan from index `from` on. The plan has
+    /// the reads that cover the point list. Returns `None` if the point list is not cached or
+    /// memory runs out.
     pub(crate) fn reads(&self, device: &Name, from: u64, most: usize) -> Option<Vec<ReadSpan>>
         ensures { (known : List Fact) → AreTrue self.now known
             → IfSome result (λ v. v.items ≡ reads_from from most (list_of known device.now)) }
@@ -130,8 +132,8 @@ impl Known {
         }
     }
 
-    /// Returns copies of only those cached accounting registers (named energy counters) of a device
-    /// that the Modbus read covers.
+    /// Returns copies of the cached accounting registers (named energy counters) of a device.
+    /// Registers that the Modbus read does not cover are left out.
     ///
     /// Returns `None` if the registers are not cached or memory runs out.
     pub(crate) fn registers_read(&self, device: &Name, span: ReadSpan) -> Option<Vec<Register>>
@@ -174,9 +176,8 @@ impl Known {
         }
     }
 
-    /// Returns a cached state of a meter at an accounting register (a named energy counter). The
-    /// meter was the latest at the register when its name was cached. The caller must check that
-    /// the meter is at this register.
+    /// Returns the cached state of the meter whose name is cached for an accounting register (a
+    /// named energy counter). The caller must check that this meter was installed at this register.
     fn standing_at(&self, register: &Name) -> Option<&Installation>
         ensures { (known : List Fact) → AreTrue self.now known
             → IfSome result (λ row. installation_at known row.now.opening.register ≡ Some row.now) }
@@ -187,8 +188,8 @@ impl Known {
         }
     }
 
-    /// Returns the state of the latest meter at an accounting register (a named energy counter), or
-    /// `None` if the state is not cached.
+    /// Returns the state of the meter that was installed last at an accounting register (a named
+    /// energy counter). Returns `None` if the state is not cached.
     pub(crate) fn installation(&self, register: &Name) -> Option<Installation>
         ensures found { (known : List Fact) → AreTrue self.now known
             → IfSome result (λ row. installation_at known register.now ≡ Some row) }
@@ -206,8 +207,8 @@ impl Known {
         }
     }
 
-    /// Caches the state of the latest meter at an accounting register, unless no meter was
-    /// installed there or memory runs out.
+    /// Caches the state of the meter that was installed last at an accounting register. Does
+    /// nothing if no meter was installed there or memory runs out.
     pub(crate) fn keep_installation(&mut self, register: &Name, found: &Option<Installation>)
         ensures { (known : List Fact) → found.now ≡ installation_at known register.now
             → AreTrue self.old known → AreTrue self.new known }

@@ -8,7 +8,8 @@ use poll_core::MAX_WINDOW;
 use std::alloc::Global;
 use std::collections::BTreeMap;
 
-/// The cached pending polls, and the number of started polls if it is cached.
+/// The cached pending polls, and the number of started polls. The number is `None` if it is not
+/// cached.
 #[derive(Drop)]
 pub(crate) struct Polls {
     waiting: BTreeMap<u64, Poll>,
@@ -49,8 +50,8 @@ impl Polls {
         self.started = Some(count);
     }
 
-    /// Caches a started poll as pending, unless the cache is full or memory runs out. The number of
-    /// started polls, if cached, is increased by one.
+    /// Caches a started poll as pending, unless the cache is full or memory runs out. If the number
+    /// of started polls is cached, the function increases this number by one.
     fn start(&mut self, poll: &Poll)
         ensures waiting { MayWait poll.now self.old self.new }
         ensures started { GoesUp self.old.started self.new.started }
@@ -71,7 +72,8 @@ impl Polls {
         let _ = self.waiting.remove(&number);
     }
 
-    /// Updates the cached polls and their cached number after one more record.
+    /// Updates the cached pending polls and the cached number of started polls after one more
+    /// record.
     pub(crate) fn apply_record(&mut self, fact: &Fact)
         ensures { PollsChange fact.now self.old self.new }
     {

@@ -56,8 +56,9 @@ fn pass_step<K: RowSink<Share>>(waits: &mut Option<Share>, step: &Step, span: Sp
     }
 }
 
-/// Passes the quarter-hour rows of the valid entries in the time span to the sink, in order. If the
-/// rules refuse one of the entries, the sink may get only some of the rows.
+/// Passes the quarter-hour rows of a meter's valid entries to the sink, in order. Rows outside the
+/// time span are left out. If the accounting rules refuse one of the entries, the sink may get only
+/// some of the rows.
 fn pass_rows<K: RowSink<Share>>(meter: &Installed, rows: &[EntryRow], span: Span, sink: &mut K)
     requires range_low { MIN_RANGE ≤ meter.now.range }
     requires range_high { meter.now.range ≤ MAX_RANGE }
@@ -96,8 +97,9 @@ fn pass_rows<K: RowSink<Share>>(meter: &Installed, rows: &[EntryRow], span: Span
     }
 }
 
-/// Passes the quarter-hour rows of a meter in the time span to the sink, in order. If the rules
-/// refuse one of the meter's entries, the sink may get only some of the rows.
+/// Passes the quarter-hour rows of a meter to the sink, in order. Rows outside the time span are
+/// left out. If the accounting rules refuse one of the meter's entries, the sink may get only some
+/// of the rows.
 pub(crate) fn hand_on<K: RowSink<Share>>(
     opening: &Opening,
     rows: &[EntryRow],

@@ -85,8 +85,8 @@ fn register_read_at(facts: &[Fact], place: usize, span: ReadSpan) -> Option<Regi
     as_register_read(facts.get(place)?, span)
 }
 
-/// Returns copies of only those accounting registers (named energy counters) at these indices that
-/// the Modbus read covers.
+/// Returns the accounting registers (named energy counters) in the records at these indices.
+/// Registers that the Modbus read does not cover are left out.
 pub(crate) fn registers_read_at(
     alloc: Global,
     facts: &[Fact],
@@ -145,8 +145,8 @@ fn as_repeat(fact: &Fact, request: &[u8]) -> Option<Repeat>
     }
 }
 
-/// Compares a request with the request in the record at index `place`, or returns `None` if the
-/// record has no request.
+/// Compares the given request with the request that is stored in the record at index `place`, or
+/// returns `None` if the record has no request.
 pub(crate) fn repeat_at(facts: &[Fact], place: usize, request: &[u8]) -> Option<Repeat>
     ensures { result ≡ spots.repeat_at request.now facts.now place }
 {

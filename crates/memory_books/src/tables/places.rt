@@ -10,8 +10,8 @@ use office_events::{DeviceList, Fact, Name, Opening, Register, Reply};
 use std::alloc::{AllocError, Global};
 use std::collections::BTreeMap;
 
-/// The kind of a table of record indices. It determines which records the table indexes, and by
-/// which key.
+/// The kind of a table of record indices. The kind determines which records the table indexes, and
+/// by which key.
 #[derive(Clone, Copy)]
 pub(crate) enum Kind {
     /// The table has point lists (the Modbus registers to read), by the name of their device.

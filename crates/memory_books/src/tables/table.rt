@@ -1,5 +1,5 @@
-//! Tables for lookups in a store in memory. Before a lookup, the records that a table still lacks
-//! are added to it.
+//! Tables for lookups in a store in memory. A lookup first updates its table for the records that
+//! the table lacks.
 ghost use Rattle.std.specs.Prelude.{◌≡◌, List, [], length, OnOk};
 ghost use Rattle.office_events.specs.declared.facts.Fact.{Fact};
 ghost use Rattle.office_books.specs.Lawful.{AreLawful};

@@ -34,8 +34,8 @@ use office_events::{
 };
 use std::alloc::{AllocError, Global};
 
-/// All lookup tables of a store in memory. Each table agrees with the records that were added to
-/// it. A lookup requires that all records were added to all tables.
+/// All lookup tables of a store in memory. Each table agrees with the records for which it was
+/// already updated. A lookup requires that all tables were updated for all records.
 #[derive(Drop)]
 pub struct Tables {
     polls: Kept<Polls>,
@@ -133,8 +133,8 @@ impl Tables {
         }
     }
 
-    /// Returns the number of Modbus reads in the plan of a device, or `None` if the device has no
-    /// point list.
+    /// Returns the number of Modbus reads in a device's plan, or `None` if the device has no point
+    /// list. The plan has the reads that cover the point list.
     pub fn read_count(&self, facts: &[Fact], device: &Name) -> Option<usize>
         ensures { (known : List Fact) → facts.now ≡ reverse known → AreWhole self.now known
             → result ≡ read_count_of (list_of known device.now) }
@@ -145,7 +145,8 @@ impl Tables {
         }
     }
 
-    /// Returns at most `most` Modbus reads of a device's plan from index `from` on.
+    /// Returns at most `most` reads of a device's plan (the Modbus reads that cover its point list)
+    /// from index `from` on.
     pub fn reads(
         &self,
         alloc: Global,
@@ -249,7 +250,8 @@ impl Tables {
         }
     }
 
-    /// Returns the state of a meter by all records, or `None` if no meter has the name.
+    /// Returns the state of a meter that follows from all records, or `None` if no meter has the
+    /// name.
     pub fn meter(&self, name: &Name) -> Option<Installation>
         ensures found { (known : List Fact) → AreLawful known → AreWhole self.now known
             → result ≡ meter_of known name.now }
@@ -258,8 +260,8 @@ impl Tables {
         self.meters.table.row(name)
     }
 
-    /// Returns the state of the latest meter at an accounting register, open or closed, or `None`
-    /// if no meter was installed there.
+    /// Returns the state of the meter that was installed last at an accounting register, open or
+    /// closed. Returns `None` if no meter was installed there.
     pub fn installation(&self, facts: &[Fact], register: &Name) -> Option<Installation>
         ensures found { WhereWhole self.now facts.now (λ known.
             result ≡ installation_at known register.now) }
@@ -333,8 +335,8 @@ impl Tables {
         Ok(rows)
     }
 
-    /// Returns the states of all meters at an accounting register (a named energy counter) in order
-    /// of installation, closed meters included.
+    /// Returns the states of all meters that were installed at an accounting register (a named
+    /// energy counter), in order of installation, closed meters included.
     pub fn installations(
         &self,
         alloc: Global,

@@ -1,5 +1,5 @@
--- Lemmas that entry rows can be read back from their rows in the database table, if the rules
--- accept the entry rows.
+-- Lemmas: if the rules accept entry rows of a meter, then these rows can be read back from their
+-- rows in the database table.
 use Rattle.std.proofs.Common.{◌≡◌, ℕ, ◌+◌, ◌<◌, Bool, true, false, not, List, [], ◌∷◌, ◌++◌, reverse, take, drop, length, get_or, Option, Some, None, Result, Ok, Err, IsOk, refl, sym, ap, subst, ◌∙◌}
 use Rattle.std.proofs.lemmas.Option.{slice_get-get_or}
 use Rattle.std.proofs.lemmas.List.{reverse-append, take_more, take-append-drop}
@@ -80,7 +80,8 @@ rows_are_distinct meter (row ∷ rows) (row' ∷ rows') fit fit' h =
     let first : row ≡ row' = sym (is_back meter rows row fit.0) ∙ ap decoded head ∙ is_back meter rows' row' fit'.0 in
     ap (λ (r : EntryRow). r ∷ rows) first ∙ ap (λ (rs : List EntryRow). row' ∷ rs) rest
 
--- A table row that the check refuses does not encode an entry row that the rules accept.
+-- If the check refuses a table row, then the row does not encode an entry row that the rules
+-- accept.
 
 refused_next : (meter : Installed) (rows : List EntryRow) (reported : TableRow) (f : RowFault) (later : List EntryRow) → IsWellInstalled meter
     → AllFit meter rows → passed meter (check_after meter rows) reported ≡ Err f → AllFit meter later
@@ -98,8 +99,8 @@ refused_next meter rows reported f (row ∷ rows') well fit why all h =
     let ok : (let r : Result (Check × Option Step) RowFault = Err f in IsOk r) = subst IsOk same passes in
     absurd (cc)
 
--- A list of table rows that contains a refused row does not encode entry rows that the rules
--- accept, whatever rows follow the refused row.
+-- If a list of table rows contains a refused row, the list encodes no entry rows that the rules
+-- accept. Rows that follow the refused row change nothing.
 pub refused_below : (meter : Installed) (rows : List EntryRow) (reported : TableRow) (f : RowFault) (newer : List TableRow) (all : List EntryRow)
     → IsWellInstalled meter → AllFit meter rows → passed meter (check_after meter rows) reported ≡ Err f → AllFit meter all
     → newer ++ reported ∷ later_rows meter rows ≡ later_rows meter all → ⊥
@@ -109,8 +110,8 @@ refused_below meter rows reported f (x ∷ newer) (row ∷ rows') well fit why f
     refused_below meter rows reported f newer rows' well fit why fits.1
     (same_tail x (reported_after meter rows' row) (newer ++ reported ∷ later_rows meter rows) (later_rows meter rows') h)
 
--- If the check of a meter's tables passes the first rows and refuses the next, the table rows do
--- not encode entry rows that the rules accept.
+-- Suppose that the check of a meter's tables passes some table rows and refuses the next row. Then
+-- all table rows together encode no entry rows that the rules accept.
 pub none_reported : (meter : Installed) (reported : List TableRow) (i : ℕ) (d : TableRow) (rows : List EntryRow) (f : RowFault) → IsWellInstalled meter
     → i < length reported → AllFit meter rows → reverse (take i reported) ≡ later_rows meter rows
     → passed meter (check_after meter rows) (get_or reported i d) ≡ Err f → AreReported meter (reverse reported) → ⊥
@@ -123,7 +124,7 @@ none_reported meter reported i d rows f well lt fit first why all =
     refused_below meter rows (get_or reported i d) f (reverse (drop (i + 1) reported)) all.rows well fit why all.fit
     (ap (λ (ts : List TableRow). reverse (drop (i + 1) reported) ++ ts) (sym upto) ∙ sym parts ∙ all.reported_is)
 
--- The first `i` + 1 table rows in reverse order begin with the row at the index `i`.
+-- If the first `i` + 1 table rows are reversed, the result begins with the row at the index `i`.
 pub reported_more : (reported : List TableRow) (i : ℕ) (d : TableRow) → i < length reported → reverse (take (i + 1) reported) ≡ get_or reported i d ∷ reverse (take i reported)
 reported_more reported i d lt = ap (λ (ts : List TableRow). reverse ts) (take_more reported i d lt) ∙ reverse-append (take i reported) (get_or reported i d ∷ [])
 

@@ -1,5 +1,5 @@
--- Lemmas on the differences between the interval rows (energies of quarter hours) that were
--- computed from a meter's entries and those in the database.
+-- Lemmas that compare two lists of interval rows (energies of quarter hours): those computed from a
+-- meter's entries, and those in the database.
 use Rattle.std.proofs.Common.{◌≡◌, ℕ, zero, suc, ◌<◌, ◌≤◌, ◌==◌, nat_lt, Bool, true, false, if◌then◌else◌, List, [], ◌∷◌, ◌++◌, length, get_or, take, drop, Option, Some, None, refl, sym, ap, subst, ◌∙◌, arith, eq-eqb}
 use Rattle.std.proofs.Math.Seq.{drop-cons}
 use Rattle.std.proofs.Math.ListN.{drop_of_length-le}
@@ -11,8 +11,8 @@ use Rattle.meter_journal.specs.declared.audit.intervals.IntervalFault.{IntervalF
 use Rattle.meter_journal.specs.declared.audit.intervals.IntervalFault.TheVariants as fault
 use Rattle.meter_journal.specs.Audit.Comparing.{fault_between, next_fault, difference_after, IsFirst}
 
--- If two lists are equal before an index and differ at this index, then the index is that of their
--- first difference.
+-- If two lists of interval rows are equal before an index and differ at this index, then their
+-- first difference is at this index.
 first_at : (wanted found wanted_left found_left : List Share) (i : ℕ) (f : IntervalFault)
     → take i wanted ≡ take i found → i ≤ length wanted → drop i wanted ≡ wanted_left → drop i found ≡ found_left
     → next_fault wanted_left found_left ≡ Some f → IsFirst wanted found (difference_after i f)
@@ -88,7 +88,7 @@ own_default [] i d e less = absurd (omega (arith, less))
 own_default (row ∷ rows) zero d e less = refl
 own_default (row ∷ rows) (suc i) d e less = own_default rows i d e (omega (arith, less))
 
--- If the rows of two lists at an index differ, the lists are not equal.
+-- If two lists of interval rows have different rows at one index, then the lists are not equal.
 pub differ_at : (wanted found : List Share) (i : ℕ) (d e : Share) (f : IntervalFault) → i < length wanted
     → fault_between (get_or wanted i d) (get_or found i e) ≡ Some f → found ≡ wanted → ⊥
 differ_at wanted found i d e f lt h is =
@@ -103,6 +103,7 @@ lengths_differ wanted found lt is = absurd (omega (arith, lt, ap (λ (rs : List 
 pub lengths_differ_too : (wanted found : List Share) → length wanted < length found → found ≡ wanted → ⊥
 lengths_differ_too wanted found lt is = absurd (omega (arith, lt, ap (λ (rs : List Share). length rs) is))
 
--- If all rows of two lists up to the ends of both are equal, the lists are equal.
+-- If two lists have equal first `i` rows, and neither list has more than `i` rows, the lists are
+-- equal.
 pub all_same : (wanted found : List Share) (i : ℕ) → take i wanted ≡ take i found → length wanted ≤ i → length found ≤ i → found ≡ wanted
 all_same wanted found i same le within = sym (take_all i found within) ∙ sym same ∙ take_all i wanted le

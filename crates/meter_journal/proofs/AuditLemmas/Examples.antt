@@ -53,7 +53,8 @@ check_as place l total ended stands =
 abbrev check : (place : ℕ) → Last → (total : ℕ) → (ended : Bool) → Check
 check place l total ended = check_as place l total ended true
 
--- A table row of a reading that is 200 Wh above the opening, the meter's first count.
+-- The table row of a meter's first reading, which is 200 Wh above its opening (the first count of
+-- the meter).
 abbrev first : TableRow
 first = reported 2 row_kind.Reading 1900 5200 0 0 (pos 0) false
 
@@ -87,7 +88,8 @@ fine_tables = record {
   are = refl;
 }
 
--- The table rows of a meter's voided (cancelled) first reading and of the reading after it.
+-- Examples of a first reading that is voided (cancelled), and of the reading after it. This is the
+-- table row of the voided reading.
 abbrev voided_first : TableRow
 voided_first = reported 2 row_kind.Reading 1900 5200 0 0 (pos 0) true
 
@@ -124,8 +126,8 @@ rescaled = refl
 reset_to_a_scale : passed house (begun house) (reported 2 row_kind.Reset 2000 5000 0 500 (pos 1) false) ≡ Err (fault.Scale (pos 0))
 reset_to_a_scale = refl
 
--- Table rows that the check of a meter's rows refuses, one for each fault that no earlier example
--- has.
+-- Examples of table rows that the check of a meter's rows refuses, one for each fault that no
+-- earlier example has.
 a_gap : passed house (begun house) (reported 3 row_kind.Reading 1900 5200 0 0 (pos 0) false) ≡ Err (fault.Place 2)
 a_gap = refl
 
@@ -154,7 +156,8 @@ by_hand_it_may_be = refl
 it_went_back : passed house (begun house) (reported 2 row_kind.Manual 1900 4999 0 0 (pos 0) false) ≡ Err (fault.Refused term.NegativeStep)
 it_went_back = refl
 
--- Differences between lists of interval rows (energies by quarter hour), and equal lists.
+-- Examples of differences between lists of interval rows (energies by quarter hour), and of equal
+-- lists.
 one_is_changed : next_fault (share 900 177777 ∷ share 1800 22223 ∷ []) (share 900 177778 ∷ share 1800 22223 ∷ [])
     ≡ Some (interval.Differs 900 177778 177777)
 one_is_changed = refl

@@ -1,5 +1,5 @@
--- Lemmas on the state of the check after one more table row, and on the interval rows that are
--- still to be compared.
+-- Lemmas on the state of a meter's check after one more table row, and on the interval rows that
+-- are still to be compared.
 use Rattle.std.proofs.Common.{◌≡◌, ℕ, zero, suc, take, drop, length, ◌+◌, ◌≤◌, ◌==◌, true, false, if◌then◌else◌, List, [], ◌∷◌, ◌++◌, Option, Some, None, Result, Ok, refl, sym, ap, subst, ◌∙◌, inl, inr, arith, append_assoc, append-nil, length-drop}
 use Rattle.std.proofs.lemmas.Bool.{cases_Bool, cond-true, cond-false}
 use Rattle.std.proofs.lemmas.List.{take-append-drop}
@@ -50,8 +50,8 @@ joined_some row share shares h =
       | inr other ↦ let e = sym (cond-false _ _ _ other) ∙ h in absurd (cc)
     ]
 
--- If merging quarter-hour energies (shares) into a list of interval rows gives an empty list, then
--- the list was empty.
+-- If merging quarter-hour energies (shares) into a list of interval rows results in an empty list,
+-- then the list was empty before.
 still_some : (rows shares : List Share) → with_shares rows shares ≡ [] → rows ≡ []
 still_some [] shares h = refl
 still_some (row ∷ []) [] h = absurd (cc)
@@ -124,8 +124,8 @@ pub passed_as : (r : Result (Check × Option Step) RowFault) (next : Check) (ste
 passed_as r next step step' h is =
     sym h ∙ ap (λ (o : Option Step). let q : Result (Check × Option Step) RowFault = Ok (next, o) in q) is
 
--- Removing interval rows (energies of quarter hours) from a list never increases the energy of the
--- remaining rows.
+-- The interval rows (energies of quarter hours) that remain after the first `n` rows are removed
+-- have at most the energy of all rows.
 less_left : (n : ℕ) (rows : List Share) → energy_of (drop n rows) ≤ energy_of rows
 less_left zero rows = omega (arith)
 less_left (suc n) [] = omega (arith)
@@ -134,8 +134,8 @@ less_left (suc n) (row ∷ rows) =
     let left : energy_of (drop (suc n) (row ∷ rows)) ≡ energy_of (drop n rows) = refl in
     omega (arith, whole, left, less_left n rows)
 
--- Removing the first of the pending interval rows (still to be compared with the database)
--- preserves the invariant of the check.
+-- If rows are removed from the front of the pending interval rows (those still to be compared), the
+-- invariant of the check still holds.
 pub left_is_sound : (n : ℕ) (meter : Installed) (old new : Progress) → new.check ≡ old.check → new.wanted.items ≡ drop n old.wanted.items
     → IsSoundProgress meter old → IsSoundProgress meter new
 left_is_sound n meter old new same left sound = record {
@@ -154,8 +154,8 @@ none_left (row ∷ rows) h =
       ap (λ (rs : List Share). length rs) h,
     ))
 
--- `drop_done` moves the interval rows (energies by quarter hour) that can't change any more from
--- the pending rows (still to be compared) to the compared rows.
+-- The function `drop_done` moves interval rows from the pending rows (still to be compared) to the
+-- compared rows. It moves the rows that no later entry can change.
 pub drops_done : (old new : Progress) → new.check ≡ old.check
     → new.wanted.items ≡ drop (settled_in old.wanted.items) old.wanted.items → DropsDone old new
 drops_done old new same left meter reported done gone =

@@ -1,5 +1,5 @@
--- The rules accept each row of a meter's history after the rows before it, if they accept each line
--- of the history.
+-- Lemmas: if the rules accept each line of a meter's history, then they accept each of its rows
+-- after the rows before it.
 use Rattle.std.proofs.Common.{◌≡◌, ℕ, ◌<◌, ◌≤◌, ◌==◌, Bool, true, false, nat_lt, if◌then◌else◌, List, [], ◌∷◌, Option, Some, None, refl, sym, ap, subst, ◌∙◌, inl, inr, arith}
 use Rattle.std.specs.Option.{option_or}
 use Rattle.std.proofs.lemmas.Bool.{cases_Bool, cond-true, cond-false}
@@ -26,7 +26,8 @@ use Rattle.meter_journal.proofs.Voiding.{Lower}
 use Rattle.meter_journal.specs.Audit.Fitting.{is_ended, last_stands, WasReading, VoidedFits, MayCome, AllFit}
 use Rattle.meter_journal.specs.Audit.Laws.{RowsOfJournalsFit}
 
--- A journal (a meter's history) that closes its meter is ended, and its list of rows is ended too.
+-- A meter's list of rows contains a closing if and only if its journal (the meter's history)
+-- contains a closing.
 
 ended_alike : (whole lines : Journal) (rows : List EntryRow) → AreRowsOf whole lines rows → is_ended rows ≡ journal_ended lines
 ended_alike whole [] [] h = refl
@@ -38,7 +39,7 @@ ended_alike whole (Entered k e ∷ lines) (row ∷ rows) h =
 ended_alike whole (Held reading cause ∷ lines) rows h = ended_alike whole lines rows h
 ended_alike whole (Voided place ∷ lines) rows h = ended_alike whole lines rows h
 
--- No row of the list follows a closing, the last entry of a meter.
+-- States that no row of the list follows a closing, the last entry of a meter.
 abbrev AllUnended : List EntryRow → Type 0
 AllUnended [] = Unit {0}
 AllUnended (row ∷ rows) = (is_ended rows ≡ false) × AllUnended rows
@@ -52,7 +53,8 @@ all_unended meter whole (Entered k e ∷ lines) (row ∷ rows) fit h =
 all_unended meter whole (Held reading cause ∷ lines) rows fit h = all_unended meter whole lines rows fit.1 h
 all_unended meter whole (Voided place ∷ lines) rows fit h = all_unended meter whole lines rows fit.1 h
 
--- The rules accept each voided (cancelled) row of the list after the valid rows before it.
+-- States that each voided (cancelled) row of the list is acceptable as a voided row after the valid
+-- rows before it.
 abbrev AllVoidedFit : Installed → List EntryRow → Type 0
 AllVoidedFit meter [] = Unit {0}
 AllVoidedFit meter (row ∷ rows) =
@@ -63,8 +65,8 @@ one_at_most : (b : Bool) (n : ℕ) → n ≡ (if b then 1 else 0) → n ≤ 1
 one_at_most true n h = omega (arith, h)
 one_at_most false n h = omega (arith, h)
 
--- An accepted reading showed a count that the counter can show, and is later than the last entry
--- before it.
+-- If the rules accepted a reading, then it showed a count that the counter can show, and is later
+-- than the last entry before it.
 was_accepted : (meter : Installed) (es : List Entry) (at raw rolls : ℕ) → IsAcceptedAs meter es at raw rolls
     → WasReading meter.range (last_after meter es) at raw rolls
 was_accepted meter es at raw rolls h =
@@ -77,15 +79,16 @@ was_accepted meter es at raw rolls h =
       once = one_at_most (nat_lt raw l.raw) rolls (rolls_of meter es at raw rolls h);
     }
 
--- A reading that the rules accept as a valid row is also acceptable as a voided (cancelled) row.
+-- If the rules accept a reading as a valid row, then the reading is also acceptable as a voided
+-- (cancelled) row.
 voided_now : (meter : Installed) (es : List Entry) (k : EntryKind) (e : Entry) → is_read k e ≡ true → EntryFits meter es k e
     → VoidedFits meter.range (last_after meter es) k e
 voided_now meter es =
     by_read (λ k e. EntryFits meter es k e → VoidedFits meter.range (last_after meter es) k e)
     (λ at raw rolls h. was_accepted meter es at raw rolls h)
 
--- A voided (cancelled) row that is acceptable after an entry is also acceptable after an earlier
--- entry.
+-- If a voided (cancelled) row is acceptable after an entry, then it is also acceptable after an
+-- earlier entry.
 voided_earlier : (range : ℕ) (l l' : Last) (k : EntryKind) (e : Entry) → l'.at ≤ l.at → VoidedFits range l k e → VoidedFits range l' k e
 voided_earlier range l l' kind.Reading (entry.Step at raw rolls) le h =
     record { accumulated = h.accumulated; below = h.below; later = omega (arith, h.later, le); once = h.once }
@@ -174,7 +177,8 @@ goes_back meter place (row ∷ rows) h =
           ]
     ]
 
--- After an entry is voided (cancelled), all voided rows are still acceptable as voided rows.
+-- If an entry is voided (cancelled), then all voided rows of the meter are still acceptable as
+-- voided rows.
 
 follows_below : (meter : Installed) (row : EntryRow) (rows : List EntryRow) → AllFollow meter.range meter.opening (entries_in (row ∷ rows))
     → AllFollow meter.range meter.opening (entries_in rows)
@@ -224,8 +228,8 @@ all_voided_fit meter (Voided place ∷ lines) well h =
     let sound = rows_are_sound meter lines well.raw h.1 in
     voided_still meter place rows a fits.there may.0 may.1 sound.account.follow sound.still (all_voided_fit meter lines well h.1)
 
--- The rules for valid readings accept each voided (cancelled) row that directly follows a valid
--- row.
+-- States that the rules for valid readings accept each voided (cancelled) row that directly follows
+-- a valid row.
 abbrev AllAfterFit : Installed → List EntryRow → Type 0
 AllAfterFit meter [] = Unit {0}
 AllAfterFit meter (row ∷ rows) =
@@ -240,7 +244,8 @@ voided_is_read range l kind.Closing e h = absurd h
 voided_is_read range l kind.Reset e h = absurd h
 voided_is_read range l kind.Rescale e h = absurd h
 
--- An accepted reading is also accepted after entries with the same last entry and less energy.
+-- If the rules accept a reading after some entries, they also accept it after entries with the same
+-- last entry and at most that energy.
 accepted_lower : (meter : Installed) (es es' : List Entry) (at raw rolls : ℕ) → Lower meter es es' → IsAcceptedAs meter es at raw rolls
     → IsAcceptedAs meter es' at raw rolls
 accepted_lower meter es es' at raw rolls low h =
@@ -264,8 +269,8 @@ lower_with_next : (meter : Installed) (place : ℕ) (rows : List EntryRow) (a : 
 lower_with_next meter place rows a None next is h = absurd (cc)
 lower_with_next meter place rows a (Some n) next is h = h
 
--- If the last row is valid after another row is voided (cancelled), it was valid before. The energy
--- of the valid entries has not grown.
+-- If the last row is still valid after another row is voided (cancelled), then it was valid before.
+-- The energy of the valid entries has not grown.
 last_still : (meter : Installed) (place : ℕ) (rows : List EntryRow) (a : Around) → row_at place rows ≡ Some a
     → Leaves meter place rows a a.next → last_stands (with_void meter.opening place rows) ≡ true
     → (last_stands rows ≡ true) × Lower meter (entries_in rows) (entries_in (with_void meter.opening place rows))

@@ -1,4 +1,5 @@
--- A table row that passes the check of a meter's tables encodes an entry row that the rules accept.
+-- Lemmas: if a table row passes the check of a meter's tables, then it encodes an entry row that
+-- the rules accept.
 use Rattle.std.proofs.Common.{◌≡◌, ◌≢◌, ℕ, ℤ, ◌+◌, ◌<◌, ◌≤◌, ◌==◌, nat_lt, nat_le, Bool, true, false, not, ◌&&◌, if◌then◌else◌, List, ◌∷◌, length, Option, Some, None, Result, Ok, Err, refl, sym, ap, subst, ◌∙◌, inl, inr, arith}
 use Rattle.std.specs.Ordering.{int_eq}
 use Rattle.std.proofs.lemmas.Bool.{cases_Bool, cond-true, cond-false, eqb-true}
@@ -153,7 +154,7 @@ read_kind P h kind.Closing is = absurd (cc)
 read_kind P h kind.Reset is = absurd (cc)
 read_kind P h kind.Rescale is = absurd (cc)
 
--- A voided (cancelled) row that passes the check is a reading.
+-- If a voided (cancelled) row passes the check of a meter's tables, then it is a reading.
 voided_read : (v : Bool) (k : EntryKind) → v ≡ true → v && not (is_reading k) ≡ false → is_reading k ≡ true
 voided_read true k is h = not_not (is_reading k) ∙ ap not h
 voided_read false k is h = absurd (cc)
@@ -189,8 +190,8 @@ accepted_by rolls (verdict.Accepted wanted step) h =
       | inr other ↦ absurd (let f : Some _ ≡ None = sym (cond-false _ _ _ other) ∙ h in cc)
     ]
 
--- The entry of the row was recorded. `next` is the state of the check after the entry, and `step`
--- is the energy since the last valid entry.
+-- States that the rules accepted the entry of a table row. `next` is the state of the check after
+-- the entry, and `step` is the step (the energy) from the last valid entry to it.
 record IsAfter (check : Check) (k : EntryKind) (reported : TableRow) (answer : Result (Last × Step) TermFault) (next : Check) (step : Option Step) : Type 0 where
   last : Last
   gone : Step
@@ -219,8 +220,8 @@ booked_after check k reported (Ok (last, gone)) next step h =
       step_is = sym (ap (λ (p : Check × Option Step). p.1) pair);
     }
 
--- A table row that is not voided (cancelled) and has no fault encodes an entry that the rules
--- accept.
+-- If a table row is not voided (cancelled) and has no fault, then it encodes an entry that the
+-- rules accept.
 stood_fits : (meter : Installed) (rows : List EntryRow) (reported : TableRow) (k : EntryKind) (next : Last) (step : Step)
     → let check = check_after meter rows in
     is_off_scale check k reported ≡ false → reading_fault meter check k reported ≡ None

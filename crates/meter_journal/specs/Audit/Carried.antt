@@ -1,6 +1,6 @@
 -- A meter whose journal (history) is split over two database files. The opening entry in the new
--- file is the meter's last entry in the old file. `lines` is the journal in the old file, and
--- `more` is the journal in the new file. The latest line comes first.
+-- file has the state of the meter's last valid entry in the old file. `lines` is the journal in the
+-- old file, and `more` is the journal in the new file. The latest line comes first.
 use Rattle.std.specs.Prelude.{◌≡◌, ◌≢◌, ℕ, ℤ, ◌+◌, ◌==◌, ◌≤◌, false, List, [], ◌∷◌, ◌++◌, map, filter}
 use Rattle.energy_core.specs.declared.limits.TheConstants.{MAX_TOTAL}
 use Rattle.energy_core.specs.declared.verdicts.Cause.TheVariants.{TotalFull}
@@ -23,8 +23,8 @@ carried meter lines =
     record { range = meter.range; ceiling = meter.ceiling; opening = last_in meter lines }
 
 -- A line of a meter's history in the new database file, renumbered for the joined journal. The
--- opening (first) entry has sequence number 1 in each file. The sequence number that a void
--- (cancellation) names is therefore raised by `count`, the number of entries in the old file.
+-- opening (first) entry has sequence number 1 in each file. A void (cancellation) therefore names a
+-- number raised by `count`, the number of entries after the opening in the old file.
 abbrev pub moved_line : (count : ℕ) → Line → Line
 moved_line count (Entered k e) = Entered k e
 moved_line count (Held reading cause) = Held reading cause
@@ -41,10 +41,10 @@ joined_journal lines more = map (moved_line (entered_count lines)) more ++ lines
 abbrev pub moved_row : (count : ℕ) → EntryRow → EntryRow
 moved_row count row = record row { place = row.place + count }
 
--- A meter that continues in a new database file: its opening (first entry) there is valid, and the
--- joined history has the rows, entries and energies of both files. A quarter hour in both files has
--- one row, with the energy of both. A meter that continues in a third file continues from the
--- joined history.
+-- States that a meter continues correctly in a new database file. Its opening (first) entry there
+-- is valid, and the joined history has the rows, entries and energies of both files. A quarter hour
+-- in both files has one row, with the energy of both. A meter that continues in a third file
+-- continues from the joined history.
 pub record GoesOn (meter : Installed) (lines more : Journal) : Type 0 where
   pub well : IsWellInstalled (carried meter lines)
   pub rows : rows_of meter.opening (joined_journal lines more)
@@ -69,13 +69,14 @@ CarriesGoOn = (meter : Installed) (lines more : Journal) → IsWellInstalled met
     → AreFitting (carried meter lines) more
     → GoesOn meter lines more
 
--- The sum of the energies of the interval rows for the quarter hour from `start`.
+-- The sum of the energies of the interval rows for the quarter hour that begins at `start`.
 abbrev pub energy_from : (start : ℕ) → List Share → ℕ
 energy_from start rows = energy_of (filter (λ row. row.start == start) rows)
 
--- The joined interval rows of both database files count each quarter hour and each civil day once.
--- A quarter hour has the energy of both files, also the quarter hour in which the files changed. A
--- day has the energy of both files, and counts a quarter hour in both files once.
+-- States that `both`, the joined interval rows of two database files, count each quarter hour and
+-- each civil day once. A quarter hour has the energy of both files, including the quarter hour in
+-- which the new file began. A day has the energy of both files, and counts a quarter hour in both
+-- files once.
 pub record AreCountedOnce (old new both : List Share) : Type 0 where
   pub ascending : IsAscending (starts_of both)
   pub quarters : (start : ℕ) → energy_from start both
@@ -85,24 +86,24 @@ pub record AreCountedOnce (old new both : List Share) : Type 0 where
       ≡ (account_on zone old day).mwh + (account_on zone new day).mwh
   pub whole : energy_of both ≡ energy_of old + energy_of new
 
--- The interval rows of a meter's joined history in both database files have the energy of all steps
--- (energies between entries) of both files. The rows count each quarter hour and each civil day
--- once.
+-- States that the interval rows of a meter's joined history in both database files have the energy
+-- of all steps of both files. A step is the energy between two entries. The rows count each quarter
+-- hour and each civil day once.
 pub record CountsOnce (meter : Installed) (lines more : Journal) : Type 0 where
   pub account : IsAccount (steps_in (carried meter lines) more ++ steps_in meter lines)
       (interval_rows meter (joined_journal lines more))
   pub rows : AreCountedOnce (interval_rows meter lines) (interval_rows (carried meter lines) more)
       (interval_rows meter (joined_journal lines more))
 
--- Theorem: if the rules accept a meter's journals in the old and the new file, then the joined
--- journal of both files counts each quarter hour once.
+-- Theorem: if the rules accept a meter's journals in the old and the new database file, the joined
+-- journal counts each quarter hour once.
 abbrev pub CarriesCountOnce : Type 0
 CarriesCountOnce = (meter : Installed) (lines more : Journal) → IsWellInstalled meter
     → AreFitting meter lines
     → AreFitting (carried meter lines) more
     → CountsOnce meter lines more
 
--- After each line of the new database file, the energy of the meter in both files together is
+-- States that, after each line of the new database file, the energy of the meter in both files is
 -- within the limit of one meter.
 abbrev pub StaysWithin : Installed → (lines more : Journal) → Type 0
 StaysWithin meter lines [] = Unit {0}
@@ -110,9 +111,10 @@ StaysWithin meter lines (line ∷ more) =
     (total_in meter lines + total_in (carried meter lines) (line ∷ more) ≤ MAX_TOTAL)
     × StaysWithin meter lines more
 
--- Theorem: the rules accept the joined journal of both database files, if the meter was open and
--- the energy stays within the limit. Readings keep their rollovers or their causes of rejection.
--- The same entries may be recorded and voided (cancelled).
+-- Theorem: the rules accept the joined journal of both database files if three conditions are true.
+-- The rules accept each file's journal, the meter was open at the end of the old file, and its
+-- energy stays within the limit. In the joined journal, readings keep their rollovers or causes of
+-- rejection, and the same entries and voids (cancellations) are allowed.
 abbrev pub CarriedJournalsFit : Type 0
 CarriedJournalsFit = (meter : Installed) (lines more : Journal) → IsWellInstalled meter
     → AreFitting meter lines
@@ -121,29 +123,30 @@ CarriedJournalsFit = (meter : Installed) (lines more : Journal) → IsWellInstal
     → StaysWithin meter lines more
     → AreFitting meter (joined_journal lines more)
 
--- A line of a meter's journal that may be recorded in the new database file instead of the old
--- file. The line voids (cancels) no entry of the old file, and rejects no reading because of the
--- limit of the total energy.
+-- States that a line of a meter's journal can be recorded in the new database file instead of the
+-- old file. Such a line does not void (cancel) an entry of the old file. It does not reject a
+-- reading because of the limit of the total energy.
 abbrev pub ComesLater : (count : ℕ) → Line → Type 0
 ComesLater count (Entered k e) = Unit {0}
 ComesLater count (Held reading cause) = cause ≢ TotalFull
 ComesLater count (Voided place) = count + 2 ≤ place
 
--- Each line of the meter's journal may be recorded in the new database file instead of the old
--- file.
+-- States that each line of the meter's journal can be recorded in the new database file instead of
+-- the old file.
 abbrev pub AllComeLater : (count : ℕ) → Journal → Type 0
 AllComeLater count [] = Unit {0}
 AllComeLater count (line ∷ lines) = ComesLater count line × AllComeLater count lines
 
--- The lines `later` can be recorded in a new database file instead of after `lines`, and the rules
--- accept them in the new file.
+-- States that the lines `later` can be recorded in a new database file instead of the old file,
+-- where they would follow `lines`. The rules accept the lines in the new file.
 pub record IsSplit (meter : Installed) (lines later : Journal) : Type 0 where
   pub more : Journal
   pub joined : joined_journal lines more ≡ later ++ lines
   pub fit : AreFitting (carried meter lines) more
 
--- Theorem: lines that the rules accept in a meter's old database file may also be recorded in a new
--- file. The lines must void (cancel) no entry of the old file.
+-- Theorem: suppose that journal lines void (cancel) no entry of a meter's old database file, and
+-- reject no reading because of the total energy's limit. If the rules accept the lines in the old
+-- file, they also accept them in a new file.
 abbrev pub LaterLinesAreCarried : Type 0
 LaterLinesAreCarried = (meter : Installed) (lines later : Journal) → IsWellInstalled meter
     → AreFitting meter (later ++ lines)

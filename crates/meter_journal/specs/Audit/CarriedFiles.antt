@@ -11,9 +11,9 @@ use Rattle.meter_journal.specs.Audit.CarriedTables.{moved_reported, without_open
 use Rattle.meter_journal.specs.Audit.Fitting.{Tables, AreFine}
 use Rattle.meter_journal.specs.Audit.Laws.{AreLawful}
 
--- The meter `meter` of an old database file continues as the meter `next` of a new file. The meter
--- was open, and its range and ceiling (maximum power) are unchanged. Its opening (first) entry in
--- the new file is its last entry in the old file.
+-- States that the meter `meter` of an old database file continues as the meter `next` of a new
+-- file. The meter was open, and its range and ceiling (maximum power) are unchanged. Its opening
+-- (first) entry in the new file has the state of its last valid entry in the old file.
 pub record GoesOnAs (meter : Installed) (last : Last) (ended : Bool) (next : Installed) : Type 0
   where
     pub unended : ended ≡ false
@@ -27,8 +27,8 @@ pub record InFile : Type 0 where
   pub meter : Installed
   pub tables : Tables
 
--- The tables that each later database file has for a meter are consistent, and the meter continues
--- in each file from the file before it.
+-- States that the tables that each later database file has for a meter are consistent. Also states
+-- that the meter continues in each file from the file before it.
 abbrev pub GoOn : InFile → (later : List InFile) → Type 0
 GoOn old [] = Unit {0}
 GoOn old (new ∷ later) =
@@ -53,8 +53,9 @@ abbrev pub entry_from_all_rows : Tables → (later : List InFile) → Tables
 entry_from_all_rows old [] = old
 entry_from_all_rows old (new ∷ later) = entry_from_all_rows (reported_by_both old new.tables) later
 
--- Theorem: the joint report of several database files about a meter is that of one lawful journal,
--- a history that the rules accept. The energy of all files must stay within the limit of one meter.
+-- Theorem: suppose that the tables of each database file are consistent, and the meter continues
+-- from file to file, with total energy within the limit. Then the joint report of all files is that
+-- of one lawful journal, a history that the rules accept.
 abbrev pub FilesAreOneHistory : Type 0
 FilesAreOneHistory = (first : InFile) (later : List InFile) → IsWellInstalled first.meter
     → AreFine first.meter first.tables

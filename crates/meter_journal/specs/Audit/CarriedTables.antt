@@ -36,10 +36,10 @@ moved_reported count reported = record reported { place = reported.place + count
 abbrev pub without_opening : List TableRow → List TableRow
 without_opening entries = take (length entries - 1) entries
 
--- The joined tables of a meter in an old and a new database file. The entries of the new file,
--- without its opening (first) entry, follow the entries of the old file, and the energies add up.
--- The last entry is the last entry of the new file. A quarter hour in both files has one row in the
--- joined tables, with the energy of both.
+-- States that `both` are the joined tables of a meter in an old and a new database file. The
+-- entries of the new file, without its opening (first) entry, follow the entries of the old file,
+-- and the energies add up. The last entry is the last entry of the new file. A quarter hour in both
+-- files has one row in the joined tables, with the energy of both.
 pub record AreOne (count : ℕ) (old new both : Tables) : Type 0 where
   pub entries : both.entries ≡ map (moved_reported count) (without_opening new.entries) ++ old.entries
   pub last : both.last ≡ new.last
@@ -48,9 +48,8 @@ pub record AreOne (count : ℕ) (old new both : Tables) : Type 0 where
   pub once : AreCountedOnce old.intervals new.intervals both.intervals
   pub ended : both.ended ≡ new.ended
 
--- Theorem: the joined tables of an old and a new database file are those of one meter (`AreOne`).
--- The meter must be open at the end of the old file, and the rules must accept its rows in both
--- files.
+-- Theorem: suppose that a meter is open at the end of the old database file, and the rules accept
+-- its rows in both files. Then the joined tables of both files are those of one meter (`AreOne`).
 abbrev pub CarriedTablesAreOne : Type 0
 CarriedTablesAreOne = (meter : Installed) (old new : List EntryRow) → IsWellInstalled meter
     → AllFit meter old
@@ -59,8 +58,8 @@ CarriedTablesAreOne = (meter : Installed) (old new : List EntryRow) → IsWellIn
     → AreOne (length old) (tables_of meter old) (tables_of (carried_from meter old) new)
     (tables_of meter (joined_rows old new))
 
--- No entry of the new database file, whether voided (cancelled) or not, raises the energy of both
--- files above the limit of one meter.
+-- States that no entry of the new database file, valid or voided (cancelled), raises the energy of
+-- both files above the limit of one meter.
 abbrev pub EntriesStayWithin : Installed → (old new : List EntryRow) → Type 0
 EntriesStayWithin meter old [] = Unit {0}
 EntriesStayWithin meter old (row ∷ rows) =
@@ -70,8 +69,9 @@ EntriesStayWithin meter old (row ∷ rows) =
     ≤ MAX_TOTAL)
     × EntriesStayWithin meter old rows
 
--- Theorem: the joined tables of a meter in the old and the new database file are consistent. The
--- rules must accept the rows of each file, and the energy must stay within its limit.
+-- Theorem: the joined tables of a meter in the old and the new database file are consistent if
+-- three conditions are true. The meter is open at the end of the old file, the rules accept each
+-- file's rows, and the energy stays within its limit.
 abbrev pub CarriedTablesAreFine : Type 0
 CarriedTablesAreFine = (meter : Installed) (old new : List EntryRow) → IsWellInstalled meter
     → AllFit meter old

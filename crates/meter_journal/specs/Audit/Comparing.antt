@@ -16,30 +16,30 @@ fault_between wanted found =
     if wanted.mwh == found.mwh then None else
     Some (fault.Differs wanted.start found.mwh wanted.mwh)
 
--- The difference between the first interval rows (energies by quarter hour) of two lists, or `None`
--- if the rows are equal or both lists are empty.
+-- The difference between the first interval rows (energies by quarter hour) of a computed and a
+-- stored list. `None` if the rows are equal or both lists are empty.
 abbrev pub next_fault : (wanted found : List Share) → Option IntervalFault
 next_fault [] [] = None
 next_fault [] (row ∷ found) = Some (fault.Unwanted row.start row.mwh)
 next_fault (row ∷ wanted) [] = Some (fault.Missing row.start row.mwh)
 next_fault (row ∷ wanted) (other ∷ found) = fault_between row other
 
--- The number of computed interval rows (energies by quarter hour) that a difference covers: 0 if
--- the table has an unwanted row, otherwise 1.
+-- The number of computed interval rows (energies by quarter hour) that a difference between the
+-- lists covers. It is 0 if the table has an unwanted row, otherwise 1.
 abbrev pub wanted_with : IntervalFault → ℕ
 wanted_with (fault.Missing start wanted) = 1
 wanted_with (fault.Unwanted start has) = 0
 wanted_with (fault.Differs start has wanted) = 1
 
--- The number of stored interval rows (energies by quarter hour) that a difference covers: 0 if the
--- table lacks a computed row, otherwise 1.
+-- The number of stored interval rows (energies by quarter hour) that a difference between the lists
+-- covers. It is 0 if the table lacks a computed row, otherwise 1.
 abbrev pub found_with : IntervalFault → ℕ
 found_with (fault.Missing start wanted) = 0
 found_with (fault.Unwanted start has) = 1
 found_with (fault.Differs start has wanted) = 1
 
--- The first difference between two lists of interval rows (energies by quarter hour), after `same`
--- equal rows.
+-- The first difference between the computed and the stored list of interval rows (energies by
+-- quarter hour), after `same` equal rows.
 abbrev pub difference_after : (same : ℕ) → IntervalFault → IntervalDifference
 difference_after same f = record {
   same = same;
@@ -48,8 +48,8 @@ difference_after same f = record {
   found_done = same + found_with f;
 }
 
--- The lists of computed and of stored interval rows (energies by quarter hour) begin with equal
--- rows. `difference` states how the rows after the equal rows differ.
+-- States that the lists of computed and of stored interval rows (energies by quarter hour) begin
+-- with equal rows. `difference` says how the rows after the equal rows differ.
 pub record IsFirst (wanted found : List Share) (difference : IntervalDifference) : Type 0 where
   pub rows : List Share
   pub wanted_left : List Share

@@ -16,28 +16,28 @@ use Rattle.meter_journal.specs.Journal.{is_closing, entries_in}
 use Rattle.meter_journal.specs.declared.audit.rows.TableRow.{TableRow}
 use Rattle.meter_journal.specs.Audit.Rows.{later_rows, table_rows}
 
--- The list of rows contains a closing (the meter's last entry), so the meter was closed.
+-- True if the list of rows contains a closing (the meter's last entry), so the meter was closed.
 abbrev pub is_ended : List EntryRow → Bool
 is_ended [] = false
 is_ended (row ∷ rows) = if is_closing row.kind then true else is_ended rows
 
--- What is known about a voided (cancelled) reading: it showed a count that the counter can show,
--- and is later than the last valid entry. Its energy is unknown, because entries that were valid at
--- its time may have been voided since.
+-- What is known about a voided (cancelled) reading. It showed a count that the counter can show, is
+-- later than the last valid entry, and has at most one rollover. Its energy is unknown, because
+-- entries that were valid at its time may have been voided since.
 pub record WasReading (range : ℕ) (last : Last) (at raw rolls : ℕ) : Type 0 where
   pub accumulated : raw ≢ 0
   pub below : raw < range
   pub later : last.at < at
   pub once : rolls ≤ 1
 
--- A voided (cancelled) row may follow the last valid entry if it is a reading that the rules may
--- have accepted at its time.
+-- States that a voided (cancelled) row may follow the last valid entry: it is a reading that the
+-- rules may have accepted at its time.
 abbrev pub VoidedFits : (range : ℕ) → Last → EntryKind → Entry → Type 0
 VoidedFits range last kind.Reading (entry.Step at raw rolls) = WasReading range last at raw rolls
 VoidedFits range last _ _ = ⊥
 
--- A row of the kind `k` may follow the valid entries `es`. If `stands` is true, the row is checked
--- as a valid row, otherwise as a voided (cancelled) row.
+-- States that a row of the kind `k` may follow the valid entries `es`. If `stands` is true, the row
+-- is checked as a valid row, otherwise as a voided (cancelled) row.
 abbrev pub MayCome : Installed → List Entry → (stands : Bool) → EntryKind → Entry → Type 0
 MayCome meter es true k e = EntryFits meter es k e
 MayCome meter es false k e = VoidedFits meter.range (last_after meter es) k e
@@ -47,9 +47,9 @@ abbrev pub last_stands : List EntryRow → Bool
 last_stands [] = true
 last_stands (row ∷ rows) = row.stands
 
--- The rules accept a row after the rows before it. The row has the next sequence number, and the
--- meter is not closed. A voided (cancelled) reading directly after a valid row must also be
--- acceptable after the valid entries.
+-- States that the rules accept a row after the rows before it. The row has the next sequence
+-- number, and the meter is not closed. If the row is a voided (cancelled) reading directly after a
+-- valid row, it also satisfies the rules for valid readings.
 pub record RowFits (meter : Installed) (rows : List EntryRow) (row : EntryRow) : Type 0 where
   pub place : row.place ≡ length rows + 2
   pub unended : is_ended rows ≡ false
@@ -57,13 +57,13 @@ pub record RowFits (meter : Installed) (rows : List EntryRow) (row : EntryRow) :
   pub voided_after : row.stands ≡ false → last_stands rows ≡ true
       → EntryFits meter (entries_in rows) row.kind row.entry
 
--- True if the rules accept each entry row of the list after the rows before it.
+-- States that the rules accept each entry row of the list after the rows before it.
 abbrev pub AllFit : Installed → List EntryRow → Type 0
 AllFit meter [] = Unit {0}
 AllFit meter (row ∷ rows) = RowFits meter rows row × AllFit meter rows
 
--- The table rows after a meter's opening row (first entry) are the table rows of a list of entry
--- rows that the rules accept. The latest row comes first.
+-- States that the table rows after a meter's opening row (first entry) encode a list of entry rows
+-- that the rules accept. The latest row comes first.
 pub record AreReported (meter : Installed) (reported : List TableRow) : Type 0 where
   pub rows : List EntryRow
   pub fit : AllFit meter rows
@@ -88,8 +88,8 @@ tables_of meter rows = record {
   ended = is_ended rows;
 }
 
--- The tables of a meter are consistent: they are the tables of a list of entry rows that the rules
--- accept.
+-- States that the tables of a meter are consistent: they are the tables of a list of entry rows
+-- that the rules accept.
 pub record AreFine (meter : Installed) (tables : Tables) : Type 0 where
   pub rows : List EntryRow
   pub fit : AllFit meter rows

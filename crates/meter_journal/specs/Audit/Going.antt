@@ -1,4 +1,5 @@
--- Definitions for the progress of a check of a meter's tables.
+-- Defines the progress of a check of a meter's tables: the rows that passed, and the interval rows
+-- that are still to be compared.
 use Rattle.std.specs.Prelude.{◌≡◌, ◌↔◌, ℕ, ◌-◌, ◌≤◌, List, [], ◌∷◌, ◌++◌, length, take, Option, Some, None, Err}
 use Rattle.interval_core.specs.declared.shares.Share.{Share}
 use Rattle.interval_core.specs.Account.{energy_of}
@@ -22,9 +23,9 @@ pub record IsSoundProgress (meter : Installed) (progress : Progress) : Type 0 wh
   pub check : IsSoundCheck meter progress.check
   pub within : energy_of progress.wanted.items ≤ progress.check.total
 
--- The check of a meter has passed the table rows `reported`, the latest first. These rows encode
--- entry rows that the rules accept. The compared interval rows (energies by quarter hour) and those
--- still to be compared together are all interval rows of the entries.
+-- States that the check of a meter has passed the table rows `reported`, the latest first. These
+-- rows encode entry rows that the rules accept. The compared interval rows (energies by quarter
+-- hour) and those still to be compared together are all interval rows of the entries.
 pub record HasGone (meter : Installed) (reported : List TableRow) (done : List Share)
     (progress : Progress) : Type 0 where
   pub rows : List EntryRow
@@ -32,12 +33,12 @@ pub record HasGone (meter : Installed) (reported : List TableRow) (done : List S
   pub reported_is : reported ≡ later_rows meter rows
   pub intervals : done ++ progress.wanted.items
       ≡ rows_of_steps (steps_after meter (entries_in rows))
-  -- If no interval row (the energy of a quarter hour) is pending (still to be compared), no
-  -- interval row was removed.
+  -- If no interval row (the energy of a quarter hour) is pending (still to be compared), then no
+  -- interval row was removed after a comparison.
   pub begun : progress.wanted.items ≡ [] → done ≡ []
 
--- States that the check of a meter's tables has passed a row if no fault is reported. Otherwise the
--- check refuses the row for the reported fault.
+-- If no fault is reported, states that the check of a meter's tables has passed the row. If a fault
+-- is reported, states that the check refuses the row for this fault.
 abbrev pub GoesOver : Installed → Progress → TableRow → Progress → Option RowFault → Type 0
 GoesOver meter old row new None = (reported : List TableRow) (done : List Share)
     → HasGone meter reported done old → HasGone meter (row ∷ reported) done new
@@ -48,31 +49,34 @@ GoesOver meter old row new (Some fault) = passed meter old.check row ≡ Err fau
 abbrev pub settled_in : List Share → ℕ
 settled_in rows = length rows - 1
 
--- `drop_done` counts the pending interval rows (still to be compared) as compared if no later entry
--- can add energy to them. The passed table rows are unchanged.
+-- States that the function `drop_done` moves interval rows from the pending rows (still to be
+-- compared) to the compared rows. It moves the rows to which no later entry can add energy. The
+-- passed table rows are unchanged.
 abbrev pub DropsDone : (old new : Progress) → Type 0
 DropsDone old new = (meter : Installed) (reported : List TableRow) (done : List Share)
     → HasGone meter reported done old
     → HasGone meter reported (done ++ take (settled_in old.wanted.items) old.wanted.items) new
 
--- The tables of a meter agree with the check of its entries: the interval rows (energies by quarter
--- hour), the last valid entry, the energy, and whether the meter was closed.
+-- States that the tables of a meter agree with the check of its entries. They have the computed
+-- interval rows (energies by quarter hour), last valid entry and energy, and say correctly whether
+-- the meter was closed.
 pub record Agrees (tables : Tables) (done : List Share) (progress : Progress) : Type 0 where
   pub intervals : tables.intervals ≡ done ++ progress.wanted.items
   pub last : tables.last ≡ progress.check.last
   pub total : tables.total ≡ progress.check.total
   pub ended : tables.ended ≡ progress.check.is_ended
 
--- Theorem: after all rows of a meter passed the check, the meter's tables are consistent if and
--- only if their other values agree with the result of the check.
+-- Theorem: suppose that all rows of a meter passed the check. The meter's tables are consistent if
+-- and only if their other values agree with the result of the check.
 abbrev pub FinishedIsFine : Type 0
 FinishedIsFine = (meter : Installed) (reported : List TableRow) (done : List Share)
     (progress : Progress) (tables : Tables) → HasGone meter reported done progress
     → tables.entries ≡ reported ++ opening_row meter.opening ∷ []
     → AreFine meter tables ↔ Agrees tables done progress
 
--- Theorem: if the check of a meter's tables refuses a row, the rules accept no list whose table
--- rows include this row and the rows before it.
+-- Theorem: if the check of a meter's tables refuses a row, this row and the rows before it encode
+-- no lawful list of entry rows. A list is lawful if the rules accept it. Rows that follow the
+-- refused row change nothing.
 abbrev pub RefusedIsNotFine : Type 0
 RefusedIsNotFine = (meter : Installed) (reported newer : List TableRow) (done : List Share)
     (progress : Progress) (row : TableRow) (fault : RowFault) → IsWellInstalled meter

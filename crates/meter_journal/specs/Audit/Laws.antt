@@ -17,28 +17,28 @@ use Rattle.meter_journal.specs.Audit.Rows.{scale_after, table_row, later_rows}
 use Rattle.meter_journal.specs.Audit.Fitting.{RowFits, AllFit, Tables, tables_of, AreFine, is_ended, last_stands}
 use Rattle.meter_journal.specs.Audit.Passing.{passed}
 
--- Theorem: the rules accept each row of a lawful journal after the rows before it, also voided
--- (cancelled) rows. A journal is a meter's history.
+-- Theorem: the rules accept each row of a lawful journal, including voided (cancelled) rows, after
+-- the rows before it. A journal is a meter's history.
 abbrev pub RowsOfJournalsFit : Type 0
 RowsOfJournalsFit = (meter : Installed) (lines : Journal) → IsWellInstalled meter
     → AreFitting meter lines
     → AllFit meter (rows_of meter.opening lines)
 
--- The valid (not voided) rows of a list alone are a lawful journal, a history that the rules
--- accept. This journal has the same valid entries as the list.
+-- States that the valid (not voided) rows of a list alone are a lawful journal, a history that the
+-- rules accept. This journal has the same valid entries as the list.
 pub record StandsAlone (meter : Installed) (rows : List EntryRow) : Type 0 where
   pub fit : AreFitting meter (entering (standing rows))
   pub entries : entries_of meter.opening (entering (standing rows)) ≡ entries_in rows
 
 -- Theorem: if the rules accept each row of a list after the rows before it, the valid (not voided)
--- rows alone form a lawful journal, a history that the rules accept.
+-- rows alone form a lawful journal. A lawful journal is a history that the rules accept.
 abbrev pub FittingRowsStandAlone : Type 0
 FittingRowsStandAlone = (meter : Installed) (rows : List EntryRow) → AllFit meter rows
     → StandsAlone meter rows
 
--- The tables report the state of a lawful journal (a history that the rules accept): its last
--- entry, energy, interval rows (energies by quarter hour), and whether the meter was closed. The
--- interval rows add up to the energy.
+-- States that the tables report the state of a lawful journal (a history that the rules accept):
+-- its last entry, energy, interval rows (energies by quarter hour), and whether the meter was
+-- closed. The interval rows add up to the energy.
 pub record AreLawful (meter : Installed) (tables : Tables) : Type 0 where
   pub lines : Journal
   pub fit : AreFitting meter lines
@@ -69,15 +69,15 @@ check_after meter rows = record {
   stands = last_stands rows;
 }
 
--- The rules accept each row of the list after the rows before it, and `check` is the state of the
--- check after all rows.
+-- States that the rules accept each row of the list after the rows before it. `check` is the state
+-- of the check after all rows.
 pub record HasTaken (meter : Installed) (rows : List EntryRow) (check : Check) : Type 0 where
   pub fit : AllFit meter rows
   pub check_is : check ≡ check_after meter rows
 
--- The table row `reported` encodes a row that the rules accept after `rows`. `after` is the state
--- of the check after this row. `step` is the energy between the row's entry and the last valid
--- entry.
+-- States that the table row `reported` encodes a row that the rules accept after `rows`. `after` is
+-- the state of the check after this row. `step` is the energy from the last valid entry to the
+-- row's entry.
 pub record IsTaken (meter : Installed) (rows : List EntryRow) (reported : TableRow) (after : Check)
     (step : Option Step) : Type 0 where
   pub row : EntryRow
@@ -85,16 +85,16 @@ pub record IsTaken (meter : Installed) (rows : List EntryRow) (reported : TableR
   pub taken : HasTaken meter (row ∷ rows) after
   pub step_is : step ≡ step_past meter.range (last_after meter (entries_in rows)) row
 
--- Theorem: a table row that passes the check of a meter's tables encodes an entry row that the
--- rules accept.
+-- Theorem: if a table row passes the check of a meter's tables, then the row encodes an entry row
+-- that the rules accept.
 abbrev pub PassedRowsFit : Type 0
 PassedRowsFit = (meter : Installed) (rows : List EntryRow) (check : Check) (reported : TableRow)
     (after : Check) (step : Option Step) → IsWellInstalled meter → HasTaken meter rows check
     → passed meter check reported ≡ Ok (after, step)
     → IsTaken meter rows reported after step
 
--- Theorem: the table row of an entry row that the rules accept passes the check of a meter's
--- tables.
+-- Theorem: if the rules accept an entry row, then the table row that encodes it passes the check of
+-- a meter's tables.
 abbrev pub FittingRowsPass : Type 0
 FittingRowsPass = (meter : Installed) (rows : List EntryRow) (check : Check) (row : EntryRow)
     → IsWellInstalled meter → HasTaken meter rows check → RowFits meter rows row
@@ -106,15 +106,15 @@ abbrev pub RowsAreReportedApart : Type 0
 RowsAreReportedApart = (meter : Installed) (rows others : List EntryRow) → AllFit meter rows
     → AllFit meter others → later_rows meter rows ≡ later_rows meter others → rows ≡ others
 
--- The check has passed a list of table rows, the latest first. These rows encode entry rows that
--- the rules accept, and `check` is the state of the check after all of them.
+-- States that the check has passed a list of table rows, the latest first. These rows encode entry
+-- rows that the rules accept, and `check` is the state of the check after all of them.
 pub record HasPassed (meter : Installed) (reported : List TableRow) (check : Check) : Type 0 where
   pub rows : List EntryRow
   pub taken : HasTaken meter rows check
   pub reported_is : reported ≡ later_rows meter rows
 
--- The check passed the table rows before the index `at.index`, and refused the row at this index
--- for `at.fault`.
+-- States that the check passed the table rows before the index `at.index`, and refused the row at
+-- this index for `at.fault`.
 pub record IsFirstRefused (meter : Installed) (reported : List TableRow) (at : RefusedRow) :
     Type 0 where
   pub check : Check

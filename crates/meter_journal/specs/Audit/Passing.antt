@@ -29,14 +29,14 @@ use Rattle.meter_journal.specs.declared.audit.rows.RowKind.{RowKind}
 use Rattle.meter_journal.specs.declared.audit.rows.RowKind.TheVariants as row_kind
 use Rattle.meter_journal.specs.declared.audit.rows.TableRow.{TableRow}
 
--- The meter may be checked: its range, its ceiling (maximum power) and its opening (first) entry
--- are within their limits.
+-- States that the meter may be checked: its range, its ceiling (maximum power) and its opening
+-- (first) entry are within their limits.
 pub record MayBeChecked (meter : Installed) : Type 0 where
   pub range : IsRange meter.range
   pub ceiling : (1 ≤ meter.ceiling) × (meter.ceiling ≤ MAX_CEILING)
   pub installed : IsWellInstalled meter
 
--- The limits that the state of a check keeps after any rows of a meter.
+-- States the limits that the state of a check keeps after any rows of a meter.
 pub record IsSoundCheck (meter : Installed) (check : Check) : Type 0 where
   pub place : check.place < 2 ^ 63
   pub total : check.total ≤ MAX_TOTAL
@@ -105,8 +105,9 @@ shape_of check row =
     if row.place == check.place + 1 then shape_by check row (kind_in row.kind)
     else Err (fault.Place (check.place + 1))
 
--- The fault of a reading, given the verdict of the rules: the rules rejected the reading, or the
--- reading's rollovers differ from the number that they require. `None` if there is no fault.
+-- The fault of a reading, given the verdict of the rules. Either the rules rejected the reading, or
+-- the reading's rollovers differ from the number that the rules require. `None` if there is no
+-- fault.
 abbrev pub fault_by : (rolls : ℕ) → Verdict → Option RowFault
 fault_by rolls (verdict.Held why) = Some (fault.Held why)
 fault_by rolls (verdict.Accepted wanted step) =
@@ -141,7 +142,7 @@ voided_fault meter check row =
     if nat_le row.moment check.last.at then Some (fault.Held cause.NotLater) else
     if nat_lt 1 row.rolls then Some (fault.Rolls 1) else None
 
--- The fault as an error, or the given result if no fault was found.
+-- The fault as an error, or the result `answer` if no fault was found.
 abbrev pub unless : {X : Type 0} → Option RowFault → Result X RowFault → Result X RowFault
 unless (Some f) answer = Err f
 unless None answer = answer
@@ -151,8 +152,8 @@ abbrev pub energy_in : Option Step → ℕ
 energy_in None = 0
 energy_in (Some step) = step.mwh
 
--- The state of the check after an entry was recorded, with the energy since the last valid entry.
--- If the entry was refused, the fault.
+-- The state of the check after the rules recorded an entry, with the energy since the last valid
+-- entry. If the rules refused the entry, the fault.
 abbrev pub following : Check → EntryKind → TableRow → Result (Last × Step) TermFault
     → Result (Check × Option Step) RowFault
 following check k row (Err f) = Err (fault.Refused f)
@@ -168,7 +169,7 @@ following check k row (Ok (last, step)) = Ok (
 )
 
 -- The state of the check after a valid row, with the step to the row's entry (the energy since the
--- last valid entry), or the first fault of the row.
+-- last valid entry). If the row has a fault, the first fault.
 abbrev pub stood : Installed → Check → EntryKind → TableRow → Result (Check × Option Step) RowFault
 stood meter check k row =
     unless (reading_fault meter check k row)
@@ -192,6 +193,6 @@ passed_by meter check row (Ok k) =
     if row.is_voided then voided meter check k row else stood meter check k row
 
 -- The state of the check after a table row, with the step to the row's entry (the energy since the
--- last valid entry), or the first fault. A voided (cancelled) row has no step.
+-- last valid entry). If the row has a fault, the first fault. A voided (cancelled) row has no step.
 abbrev pub passed : Installed → Check → TableRow → Result (Check × Option Step) RowFault
 passed meter check row = passed_by meter check row (shape_of check row)

@@ -9,54 +9,56 @@ ghost use Rattle.meter_journal.specs.Audit.CarriedFiles.{FilesAreOneHistory};
 use crate::interval_rows_add_up;
 use interval_core::shares_add_up;
 
-/// Theorem: if a meter continues in a new file, then the rows and energies of both files together
-/// are those of one journal, the meter's history. This journal's last entry is the last entry of
-/// the new file.
+/// Theorem: if a meter continues in a new database file, then both files together have the rows and
+/// energies of one journal, the meter's history. This journal's last entry is the last entry of the
+/// new file.
 pub fn carries_go_on()
     ensures { CarriesGoOn }
 {}
 
-/// Theorem: for a meter that continues in a new file, each quarter hour and each civil day has the
-/// energy of both files, and counts once. The quarter hour in which the files changed also counts
-/// once.
+/// Theorem: if a meter continues in a new database file, each quarter hour and each civil day has
+/// the energy of both files, and counts once. The quarter hour in which the new file began also
+/// counts once.
 pub fn carries_count_once()
     ensures { CarriesCountOnce }
 {
     shares_add_up();
 }
 
-/// Theorem: the journals (histories) of a meter in the old and the new file together are one
-/// journal that the rules accept. The meter must be open, and its energy within the limit of one
-/// meter.
+/// Theorem: suppose that a meter is open at the end of the old database file, and its energy stays
+/// within the limit of one meter. Then its journals (histories) in the old and the new file
+/// together are one journal that the rules accept.
 pub fn carried_journals_fit()
     ensures { CarriedJournalsFit }
 {}
 
-/// Theorem: lines that the rules accept in a meter's old database file may also be recorded in a
-/// new file. The lines must void (cancel) no entry of the old file. The journals of both files
-/// together then equal the journal of a single file.
+/// Theorem: suppose that journal lines void (cancel) no entry of a meter's old database file, and
+/// reject no reading because of the total energy's limit. If the rules accept the lines in the old
+/// file, they also accept them in a new file. The journals of both files together then equal the
+/// journal of a single file.
 pub fn later_lines_are_carried()
     ensures { LaterLinesAreCarried }
 {}
 
-/// Theorem: the tables that an old and a new file have for a meter together have the rows, the
-/// energy and the interval rows of one file. Each quarter hour and each civil day counts once.
+/// Theorem: the tables of a meter in an old and a new database file together have the rows, energy
+/// and interval rows of one file. Each quarter hour and each civil day counts once.
 pub fn carried_tables_are_one()
     ensures { CarriedTablesAreOne }
 {
     shares_add_up();
 }
 
-/// Theorem: a meter's tables in the old and the new file together are consistent. The rules must
-/// accept the rows of each file, and the energy must stay within its limit.
+/// Theorem: a meter's tables in an old and a new database file together are consistent if three
+/// conditions are true. The meter is open at the end of the old file, the rules accept each file's
+/// rows, and the energy stays within its limit.
 pub fn carried_tables_are_fine()
     ensures { CarriedTablesAreFine }
 {}
 
-/// Theorem: if a meter continues in each file from the file before it, the tables of all files
-/// report the state of one history that the rules accept. The tables of each file must be
-/// consistent. The state consists of the last entry, the energy, the interval rows, and whether the
-/// meter was closed.
+/// Theorem: suppose that the tables of each database file are consistent, and a meter continues
+/// from file to file, with total energy within the limit. Then the tables of all files report the
+/// state of one lawful history, which means that the rules accept the history. The state consists
+/// of the last entry, the energy, the interval rows, and whether the meter was closed.
 pub fn files_are_one_history()
     ensures { FilesAreOneHistory }
 {

@@ -58,8 +58,8 @@ fn is_off_scale(check: &Check, kind: EntryKind, row: &TableRow) -> bool
     }
 }
 
-/// Returns the kind of an entry row, or the row's first fault. The row needs the next sequence
-/// number, and columns that its kind allows.
+/// Returns the kind of an entry row, or the row's first fault. A row without fault has the next
+/// sequence number, and columns that its kind allows.
 fn shape(check: &Check, row: &TableRow) -> Result<EntryKind, RowFault>
     requires { check.now.place < 2 ^ 63 }
     ensures { result ≡ passing.shape_of check.now row.now }

@@ -25,6 +25,7 @@ pub enum RowFault {
     /// needs the rollovers computed from the entry before it, and a voided (cancelled) reading has
     /// at most one.
     Rolls { wanted: u8 },
-    /// The row is an entry by hand that the rules would have refused for this fault.
+    /// The row is a manual entry (made by a person) that the rules would have refused for this
+    /// fault.
     Refused(TermFault),
 }

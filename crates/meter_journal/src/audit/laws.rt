@@ -8,14 +8,14 @@ ghost use Rattle.meter_journal.specs.Audit.Going.{FinishedIsFine, RefusedIsNotFi
 
 use crate::interval_rows_add_up;
 
-/// Theorem: the rules accept each row of a lawful journal after the rows before it, also voided
-/// (cancelled) rows. A journal is a meter's history.
+/// Theorem: the rules accept each row of a lawful journal, including voided (cancelled) rows, after
+/// the rows before it. A journal is a meter's history.
 pub fn rows_of_journals_fit()
     ensures { RowsOfJournalsFit }
 {}
 
 /// Theorem: if the rules accept each row of a list after the rows before it, the valid (not voided)
-/// rows alone form a lawful journal, a history that the rules accept.
+/// rows alone form a lawful journal. A lawful journal is a history that the rules accept.
 pub fn matching_rows_are_independent()
     ensures { FittingRowsStandAlone }
 {}
@@ -34,14 +34,14 @@ pub fn lawful_tables_are_fine()
     ensures { LawfulTablesAreFine }
 {}
 
-/// Theorem: a table row that passes the check of a meter's tables encodes an entry row that the
-/// rules accept.
+/// Theorem: if a table row passes the check of a meter's tables, then the row encodes an entry row
+/// that the rules accept.
 pub fn passed_rows_fit()
     ensures { PassedRowsFit }
 {}
 
-/// Theorem: the table row of an entry row that the rules accept passes the check of a meter's
-/// tables.
+/// Theorem: if the rules accept an entry row, then the table row that encodes it passes the check
+/// of a meter's tables.
 pub fn fitting_rows_pass()
     ensures { FittingRowsPass }
 {}
@@ -52,14 +52,14 @@ pub fn rows_are_distinct()
     ensures { RowsAreReportedApart }
 {}
 
-/// Theorem: after all rows of a meter passed the check, the meter's tables are consistent if and
-/// only if their other values agree with the result of the check.
+/// Theorem: suppose that all rows of a meter passed the check. The meter's tables are consistent if
+/// and only if their other values agree with the result of the check.
 pub fn finished_is_fine()
     ensures { FinishedIsFine }
 {}
 
-/// Theorem: after the check of a meter's tables refuses a row, no table that contains this row and
-/// the rows before it is consistent.
+/// Theorem: if the check of a meter's tables refuses a row, then no table that contains this row
+/// and the rows before it is consistent.
 pub fn refused_is_not_fine()
     ensures { RefusedIsNotFine }
 {}

@@ -18,7 +18,7 @@ pub struct RefusedRow {
     pub fault: RowFault,
 }
 
-/// Checks the rows after the opening row (the meter's first entry), in order of their sequence
+/// Checks a meter's table rows after the opening row (its first entry), in order of their sequence
 /// numbers. Returns the state of the check after all rows. On error, returns the first refused row.
 pub fn check_rows(meter: &Installed, rows: &[TableRow]) -> Result<Check, RefusedRow>
     requires meter { MayBeChecked meter.now }

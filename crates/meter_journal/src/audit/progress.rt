@@ -36,8 +36,8 @@ pub fn start(alloc: Global, meter: &Installed) -> Progress
     }
 }
 
-/// Checks the next entry row. Returns the row's fault if the row is refused. In this case, only the
-/// check's sequence number advances.
+/// Checks the next entry row of a meter. Returns the row's fault if the check refuses the row. In
+/// this case, only the check's sequence number advances.
 ///
 /// The only error is out of memory. The interval rows (energies by quarter hour) still to be
 /// compared are unspecified after an error.

@@ -1,4 +1,4 @@
-//! The rows of the database table of entries, as a query returned them.
+//! The rows of the database table of a meter's entries, as a query returned them.
 ghost use Rattle.std.specs.Prelude.{◌≡◌};
 ghost use Rattle.meter_journal.specs.Audit.Passing as passing;
 

@@ -1,4 +1,4 @@
--- Worked examples of entries by hand, counter resets, changes of the scale factor, and closings and
+-- Worked examples of manual entries, counter resets, changes of the scale factor, and closings and
 -- exchanges of meters.
 use Rattle.std.proofs.Common.{◌≡◌, pos, true, false, [], ◌∷◌, Some, None, Ok, Err, refl}
 use Rattle.energy_core.specs.Value.{unit_of}

@@ -1,5 +1,5 @@
--- Worked examples of the limits of commands, each with the last allowed number and the first
--- refused number.
+-- Worked examples of the limits of numbers in commands, each with the last allowed number and the
+-- first refused number.
 use Rattle.std.proofs.Common.{◌≡◌, ℕ, ℤ, pos, negsuc, true, false, Bool, List, [], Some, replicate, refl}
 use Rattle.office_events.specs.declared.commands.Command.TheVariants as command
 use Rattle.office_events.specs.declared.commands.GivenScale.{GivenScale}
@@ -60,7 +60,7 @@ scales sf =
 scale_factors : (scales (negsuc 3) ≡ true) × (scales (negsuc 2) ≡ false) × (scales (pos 3) ≡ false) × (scales (pos 4) ≡ true)
 scale_factors = (refl, refl, refl, refl)
 
--- Examples of the limits of a new meter's range, count and greatest power.
+-- Examples of the limits of a new meter's counter range, counter value and greatest power.
 
 abbrev installs : (range raw ceiling : ℕ) → Bool
 installs range raw ceiling =
@@ -70,7 +70,8 @@ ranges : (installs 65535 0 1 ≡ true) × (installs 65536 0 1 ≡ false) × (ins
     × (installs 4294967297 0 1 ≡ true)
 ranges = (refl, refl, refl, refl)
 
--- The count of a new meter must be below its range.
+-- The counter value of a new meter must be less than its range, the number of values that the
+-- counter has.
 counters : (installs 65536 65535 1 ≡ false) × (installs 65536 65536 1 ≡ true)
     × (installs full_range 4294967295 1 ≡ false) × (installs full_range 4294967296 1 ≡ true)
 counters = (refl, refl, refl, refl)
@@ -85,7 +86,7 @@ closes rolls = asks_bad_field 0 (command.Close (record { register = Some main; r
 turns : (closes 255 ≡ false) × (closes 256 ≡ true)
 turns = (refl, refl)
 
--- The maximum numbers of devices, accounting registers and meters.
+-- Examples of the maximum numbers of devices, accounting registers and meters.
 
 abbrev adds_after : (devices : List Slot) → Bool
 adds_after devices = is_crowded devices [] (command.AddDevice (record { name = Some inv; unit = 1; timeout = 5; window = 1 }))
@@ -113,7 +114,7 @@ installs_after count =
 installations : (installs_after 4095 ≡ false) × (installs_after 4096 ≡ true)
 installations = (refl, refl)
 
--- Examples of the limits of timestamps, poll numbers and request numbers.
+-- Examples of the limits of timestamps, poll numbers and numbers of idempotency keys.
 
 -- The greatest timestamp is the first second of 2100.
 last_moment : moment_limit ≡ 4102444800

@@ -66,7 +66,7 @@ gone = event.Gone (Some inv) closing.Gone
 abbrev pub bytes : List ℕ → Event
 bytes piece = event.Bytes (Some inv) piece
 
--- A read of a counter and its scale factor, and a read of the counter only.
+-- Two example reads: a read of a counter and its scale factor, and a read of the counter only.
 abbrev pub three_words : ReadSpan
 three_words = record { function = HoldingRegisters; address = 40094; count = 3; some = lit≤ tt; few = lit≤ tt; inside = lit≤ tt }
 
@@ -120,12 +120,12 @@ abbrev pub started : History
 started = Fed 1898 (start three_words) ∷ Fed 1898 connect ∷ Fed 1000 (install 5000 (pos 0) 100000 full_range)
     ∷ Fed 1000 (register (given.Register 40096)) ∷ Fed 1000 (device inv 1) ∷ Opened 0 ∷ []
 
--- The response to a poll with a given transaction identifier. It contains the meter's count and
--- scale factor.
+-- The response to a poll with a given transaction identifier. It contains the meter's counter value
+-- and scale factor.
 abbrev pub reply : (id high low sf : ℕ) → Event
 reply id high low sf = bytes (0 ∷ id ∷ 0 ∷ 0 ∷ 0 ∷ 9 ∷ 1 ∷ 3 ∷ 6 ∷ 0 ∷ 0 ∷ high ∷ low ∷ 0 ∷ sf ∷ [])
 
--- The events up to a response with the count 5200.
+-- The events up to a response with the counter value 5200.
 abbrev pub answered : History
 answered = Fed 1900 (reply 0 20 80 0) ∷ started
 
@@ -137,7 +137,7 @@ house at raw sf ceiling range = Fed at connect ∷ Fed at (install raw sf ceilin
 abbrev pub shows : (id : ℕ) → (counter : List ℕ) → Event
 shows id counter = bytes ((0 ∷ id ∷ 0 ∷ 0 ∷ 0 ∷ 7 ∷ 1 ∷ 3 ∷ 4 ∷ []) ++ counter)
 
--- The events after a reading of the meter at a given time, with a given count.
+-- The events after a reading of the meter at a given time, with a given counter value.
 abbrev pub read : (at id : ℕ) → (counter : List ℕ) → History → History
 read at id counter past = Fed at (shows id counter) ∷ Fed at (start two_words) ∷ past
 

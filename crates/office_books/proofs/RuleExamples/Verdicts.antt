@@ -1,5 +1,5 @@
--- Worked examples of verdicts on readings: rollovers of the counter, gaps between readings, counts
--- out of range, and energy above the meter's greatest power.
+-- Worked examples of verdicts on readings: rollovers of the counter, gaps between readings, counter
+-- values out of range, and energy above the meter's greatest power.
 use Rattle.std.proofs.Common.{◌≡◌, pos, negsuc, [], ◌∷◌, Err, refl}
 use Rattle.energy_core.specs.Value.{unit_of}
 use Rattle.energy_core.specs.declared.verdicts.Cause.TheVariants as cause

@@ -112,8 +112,8 @@ before_at at [] i slot all there = absurd (cc)
 before_at at (l ∷ slots) zero slot all there = let e : l ≡ slot = cc in subst (λ (x : sessions.Slot). none_later at x.present) e all.0
 before_at at (l ∷ slots) (suc i) slot all there = before_at at slots i slot all.1 there
 
--- If a command starts polls, then the poll records, the request frames and the answer of the
--- command are those that are defined for its device's connection.
+-- If a command starts polls, then its poll records, request frames and answer can be computed from
+-- the slot of its device alone.
 pub added_there : (number at : ℕ) (slots : List sessions.Slot) (known : List Fact) (c : Command) (slot : sessions.Slot) → is_start c ≡ true
     → slot_of slots (sessions.started_on c) ≡ Some slot → added_by number at slots known c ≡ polls_of number at (spans_by known c) slot
 added_there number at slots known (command.AddDevice c) slot h found = absurd (cc)
@@ -225,8 +225,8 @@ pub found_named : (slots : List sessions.Slot) (given : Option (List ℕ)) (slot
     → is_named given slot.device.name ≡ true
 found_named slots given slot found = find_passes (λ (l : sessions.Slot). is_named given l.device.name) slots slot found
 
--- If the rules accept all records after a command that starts polls, then they also accept the poll
--- records computed from the device's connection.
+-- If all records after a command that starts polls are valid, then the poll records computed from
+-- the device's connection are valid.
 pub polls_lawful : (at : ℕ) (slots : List sessions.Slot) (known : List Fact) (c : Command) (replies : List Fact) (slot : sessions.Slot) → is_start c ≡ true
     → slot_of slots (sessions.started_on c) ≡ Some slot → AreLawful (facts_obeyed at slots known c replies)
     → AreLawful (with_facts (polls_of (next_poll known) at (spans_by known c) slot ++ replies) known)

@@ -49,8 +49,8 @@ fed_is past at (event.Asked asked) c replies is kept =
     ap (λ (fs : List Fact). reverse (added asked.command ++ fs) ++ facts_of past) kept
     ∙ ap (λ (x : Command). reverse (added x ++ replies) ++ facts_of past) same
 
--- If an event requests a command, then the device slots (devices with their connections) after the
--- event equal the slots after the command.
+-- If two functions agree on every device slot (device with its connection), they map a list of
+-- slots to the same list. Therefore the slots after an event equal the slots after its command.
 map_same : (f g : sessions.Slot → sessions.Slot) → ((slot : sessions.Slot) → f slot ≡ g slot) → (slots : List sessions.Slot) → map f slots ≡ map g slots
 map_same f g h [] = refl
 map_same f g h (slot ∷ slots) = ap (λ l. l ∷ map f slots) (h slot) ∙ ap (λ ls. g slot ∷ ls) (map_same f g h slots)
@@ -115,8 +115,7 @@ carries old new after past at e c replies result is kept obeys = record {
   sent = λ h clean. if_ok _ _ result (λ done own. own ∙ ap (notes.frames_by (next_poll (facts_of past)) at (slots_of past) (facts_of past)) (sym is)) (obeys.sent h clean);
 }
 
--- If an event that requests a command is accepted, then the rules accept the records after the
--- command.
+-- If an event that requests a command is accepted, then the records after the command are valid.
 pub lawful_fed : FactsAreLawful → (past : History) (at : ℕ) (e : Event) (c : Command) (replies : List Fact) → IsPast past → IsAccepted past at e
     → command_in e ≡ Some c → replies_by at e ≡ replies → PutsPlanned (Some c) → AreLawful (facts_obeyed at (slots_of past) (facts_of past) c replies)
 lawful_fed law past at e c replies is_past accepted is kept planned =
@@ -175,8 +174,8 @@ idle_sent slots facts number at c h =
     sym (ap (λ (g : Option (List ℕ)). frames_from number at (spans_by facts c) (slot_of slots g)) (idle_events c h)
     ∙ none_from number at (spans_by facts c) slots)
 
--- After a slot (the state of a connection) is added for a new device, the slots in memory still
--- agree with the list of devices.
+-- If the slots in memory agree with the slots of the events, they still do after both lists get a
+-- slot for a new device.
 keeps_push : (now : List Slot) (kept : List sessions.Slot) (new : Slot) (slot : sessions.Slot) → KeepsSlots now kept → KeepsSlot new slot
     → KeepsSlots (now ++ new ∷ []) (kept ++ slot ∷ [])
 keeps_push [] [] new slot keeps this = (this, tt)

@@ -25,8 +25,8 @@ asked old new facts (Err why) books = record {
   goes = passes old new (Err why) books.goes;
 }
 
--- If a write gives the store exactly the defined records, then the write satisfies the guarantees
--- of a change from the earlier to the later records.
+-- Suppose that a write appends records to the store, and the result is the list of records that the
+-- definitions require. Then the write has the guarantees of a change (`Moves`) to this list.
 pub tried : (old new : Ledger) (known later facts : List Fact) (result : Result (Unit {0}) BooksFault) → Tries old new facts result
     → (old.holds known → old.is_clean → with_facts facts known ≡ later) → AreLawful later → Moves old new known later result
 tried old new known later facts (Ok done) tries right lawful =

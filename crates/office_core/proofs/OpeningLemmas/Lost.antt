@@ -12,7 +12,7 @@ use Rattle.office_books.specs.declared.faults.BooksFault.{BooksFault}
 use Rattle.office_books.specs.Ledgers.{Ledger, Consults, Books, Moves, with_facts}
 use Rattle.office_books.proofs.Moving.{passes, passes_then, passes_well, settles}
 
--- The records that an opening of the program adds: for each poll that was pending, the outcome that
+-- The records that an opening of the store adds: for each poll that was pending, the outcome that
 -- the poll is lost.
 lost_as : (at : ℕ) (facts : List Fact) (polls : List Poll) (known : List Fact) → facts ≡ map (lost at) polls → polls ≡ pending_in known
     → with_facts facts known ≡ with_lost at known

@@ -58,8 +58,8 @@ faulty_at facts at c row e why is same =
     sym (ap (makes_fault at why c) (open_found facts (corrected_at c) ∙ ap (option_and_then if_open) (sym is)) ∙ faulty_if at c row e why row.ended same)
 
 -- True if the command corrects the meter at its accounting register (a named energy counter) by the
--- entry `e`. `off_scale` states whether the command's scale is out of range. `off_limits` states
--- whether another number is out of range.
+-- given entry. Two Booleans state whether the command's scale is out of range, and whether another
+-- number is out of range.
 pub record Corrects (slots : List Slot) (facts : List Fact) (at : ℕ) (c : Command) (row : Installation) (e : Entry)
     (off_scale off_limits : Bool) : Type 0 where
   pub unknown : asks_unknown slots facts c ≡ has_no_meter facts (corrected_at c)
@@ -129,8 +129,8 @@ limited false true faulty = refl
 limited false false true = refl
 limited false false false = refl
 
--- The limit on the number of meters is the last reason to refuse a command's entry. Checking this
--- limit after all other reasons gives the same refusal.
+-- Checking the limit on the number of meters after all other reasons gives the same refusal as
+-- checking it together with the other limits. The refusal `Limit` is the last reason.
 pub room_last : (arrival : Arrival) (off_scale limits crowded : Bool) (row : Installation) (e : Entry)
     → or_limit crowded (entry_refusal arrival off_scale limits row e) ≡ entry_refusal arrival off_scale (limits || crowded) row e
 room_last arrival off_scale limits false row e =

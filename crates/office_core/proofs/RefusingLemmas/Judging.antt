@@ -1,6 +1,6 @@
--- Lemmas about a voided (cancelled) entry, and the verdict on the entry after it. The verdict from
--- the meter's present total energy equals the verdict from the energy before the voided entry. The
--- exception is a total above its limit.
+-- Lemmas about a voided (cancelled) entry, and the verdict on the entry after it. The verdict can
+-- be computed from the meter's present total energy or from the energy before the voided entry. The
+-- results are equal, unless the total exceeds its limit.
 use Rattle.std.proofs.Common.{◌≡◌, ◌⊎◌, ℕ, ◌+◌, ◌*◌, ◌≤◌, ◌<◌, Bool, true, false, List, [], ◌∷◌, refl, sym, ap, subst, ◌∙◌, inl, inr, Option, Some, None, is_some, arith, lt-ltb, ltb-true}
 use Rattle.std.specs.List.{find}
 use Rattle.std.specs.Option.{option_map, option_and_then}
@@ -86,7 +86,7 @@ module _ (before : Installation) (many : ℕ) (le : before.total ≤ many) where
   following None less = refl
   following (Some next) less = between next.entry less
 
--- If two entries are equal, then the verdicts on their voids (cancellations) are equal.
+-- If two entries are equal, then voids (cancellations) of the two have the same result.
 pub judged_itself : (own found : Option EntryContext) → found ≡ own → IsJudgedAs own found
 judged_itself own found is = record { there = ap is_some is; voidable = ap is_not_voidable is; verdict = ap verdict_at is }
 
@@ -104,7 +104,7 @@ by_opening facts place None found is le less = judged_itself None found is
 by_opening facts place (Some o) found is le less =
     by_whole (option_map (place_in facts o) (row_at place (rows_of facts o))) found (installation_of facts o).total is (λ p at. le (installation_of facts o) p refl at) less
 
--- A void (cancellation) of an entry gets the same verdict from the rows near the entry as from all
--- rows of the meter. The exception is a total energy above its limit.
+-- A void (cancellation) of an entry has the same result if it is judged from the nearby rows or
+-- from all rows of the meter. The exception is a present total energy that would exceed its limit.
 pub judged_near : (facts : List Fact) (meter : List ℕ) (place : ℕ) (found : Option EntryContext) → ReportsNear facts meter place found → is_full found ≡ false → IsJudgedAs (entry_at facts meter place) found
 judged_near facts meter place found reported less = by_opening facts place (opening_of facts meter) found reported.near reported.within less

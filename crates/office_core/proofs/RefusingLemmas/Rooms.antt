@@ -1,4 +1,4 @@
--- Lemmas about the number of polls that a Modbus session can start in a row.
+-- Lemmas about the number of polls that a Modbus session can start now, one after another.
 use Rattle.std.proofs.Common.{◌≡◌, ℕ, ◌+◌, ◌<◌, ◌≤◌, min, nat_lt, false, List, [], ◌∷◌, ◌++◌, length, get_or, refl, sym, ap, subst, ◌∙◌, inl, inr, Option, Some, None, append_assoc, arith}
 use Rattle.std.specs.Prelude.{IsSome}
 use Rattle.std.specs.List.{slice_get}
@@ -31,8 +31,8 @@ starts_more (s ∷ starts) send at device h = (h.0, starts_more starts send at d
 abbrev IsReadyFor : Device → List session.Event → (id count : ℕ) → Type 0
 IsReadyFor device events id count = IsReady device.timeout device.window events id count
 
--- If a Modbus session can start `count` polls, and fewer than `count` polls were started, then it
--- can start another poll.
+-- Suppose that a Modbus session can start `count` polls, and at most `count` of them were started.
+-- It can start another poll if and only if fewer than `count` were started.
 startable : (device : Device) (events starts : List session.Event) (id count : ℕ) → IsReadyFor device events id count → AreStarts starts
     → length starts ≤ count → is_startable device (Some (events ++ starts)) ≡ nat_lt (length starts) count
 startable device events starts id count ready are few =
@@ -46,8 +46,8 @@ startable device events starts id count ready are few =
           ∙ sym (le-ltb (length starts) count ge)
     ]
 
--- A Modbus session starts all of the given reads, or only the first reads if it cannot start the
--- later reads.
+-- If a Modbus session can start `count` polls, then it starts the first `count` of the given reads,
+-- or all reads if there are fewer.
 sends_count : (at number : ℕ) (device : Device) (events starts : List session.Event) (id count : ℕ) (spans : List ReadSpan)
     → IsReadyFor device events id count → AreStarts starts → length starts ≤ count
     → length starts + length (sends_on number at device (events ++ starts) spans) ≡ min count (length starts + length spans)
@@ -87,7 +87,7 @@ room_after device events id count ready = record {
 }
 
 -- The Modbus session in memory and the list of its events determine the same number of polls that
--- can be started in a row.
+-- can be started now, one after another.
 pub room_kept : (device : Device) (kept : standing.State) (present : Option (List session.Event)) (id count : ℕ) → KeepsPresent device (Some kept) present
     → ((events : List session.Event) → standing.Stands kept events → IsReady kept.timeout kept.window events id count) → HasRoomOn device present count
 room_kept device kept None id count keeps ready = absurd keeps

@@ -1,5 +1,5 @@
--- Properties of the slots in memory in relation to their definition. A slot is a device with its
--- session, the state of its connection.
+-- Lemmas that the slots in memory agree with the slots that follow from the accepted events. A slot
+-- is a device with its session, the state of its connection.
 use Rattle.std.proofs.Common.{◌≡◌, ℕ, zero, suc, ◌+◌, ◌<◌, List, [], ◌∷◌, Bool, true, false, not, cond, Option, Some, None, IfSome, is_some, length, get_or, nat_lt, refl, ap, sym, ◌∙◌, arith}
 use Rattle.std.specs.List.{find, slice_get, position, position_or_len}
 use Rattle.std.specs.Option.{option_and_then}
@@ -57,8 +57,8 @@ pub slot_found : (given : Option (List ℕ)) (kept : List Slot) (slots : List se
 slot_found given kept slots place is keeps =
     position_found (is_of given) slots ∙ ap (option_and_then (slice_get slots)) (sym (is ∙ same_position given kept slots keeps))
 
--- The slot in memory at an index agrees with the device and the Modbus session that the events
--- define for this index.
+-- The slot in memory at an index agrees with the slot (device with its session) at the same index
+-- that follows from the accepted events.
 pub keeps_at : (kept : List Slot) (slots : List sessions.Slot) (i : ℕ) (d : Slot) → KeepsSlots kept slots → i < length kept
     → (slot : sessions.Slot) × (slice_get slots i ≡ Some slot) × KeepsSlot (get_or kept i d) slot
 keeps_at [] slots i d keeps inside = absurd (omega arith)

@@ -35,8 +35,8 @@ use Rattle.office_core.specs.Settling.Drafts.{so_far, HasMore, IsReported, AreRe
 use Rattle.office_core.proofs.SettlingLemmas.Reported.{SkipsReported, reported_skipped, reported_last}
 use Rattle.office_core.proofs.SettlingLemmas.ReadRegisters.{with_read, reported_read}
 
--- True if the records before the addition `more` follow the rules whenever the records with this
--- addition do.
+-- States that, if the records with an addition are valid (`AreLawful`), then the records before the
+-- addition are valid.
 abbrev pub KeepsLawful : (List Fact → List Fact) → Type 0
 KeepsLawful more = (facts : List Fact) → AreLawful (more facts) → AreLawful facts
 
@@ -193,7 +193,7 @@ one_register_more holds mid clean later old between new at poll words rs i r les
     (grows_then holds mid clean later old between new (with_registers at poll words (take i rs)) (with_register at poll words r)
     (registers_notes at poll words (take i rs)) (register_notes at poll words r) kept cleaner (before_register at poll words r) first second)
 
--- A record of a poll's outcome or of a reading is neither the record of a started poll nor of an
+-- A record of a poll's outcome or of a reading is not the record of a started poll or of an
 -- accounting register.
 no_poll : SkipsReported as_poll
 no_poll (fact.Device device) reported = absurd reported

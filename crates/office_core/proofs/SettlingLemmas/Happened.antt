@@ -87,7 +87,7 @@ puts_nothing (event.Gone given closing) s = tt
 puts_nothing (event.Command c) s = absurd s
 puts_nothing (event.Asked asked) s = absurd s
 
--- If a device event is accepted, then the records after this event follow the rules (`AreLawful`).
+-- If a device event is accepted, then the records after this event are valid (`AreLawful`).
 lawful_next : FactsAreLawful → (past : History) (slots : List Slot) (at : ℕ) (e : Event) → IsSettling e → IsNext past slots at e
     → AreLawful (facts_of (Fed at e ∷ past))
 lawful_next law past slots at e s next =

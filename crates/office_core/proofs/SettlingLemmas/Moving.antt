@@ -28,7 +28,7 @@ moves_nothing old facts known none =
     }
 
 -- True if the store's records, followed by the new records `facts`, equal the records `later` and
--- follow the rules (`AreLawful`).
+-- are valid (`AreLawful`).
 abbrev pub Leads : Ledger → (clean : Type 0) → (facts known later : List Fact) → Type 0
 Leads old clean facts known later = old.holds known → clean → (with_facts facts known ≡ later) × AreLawful (with_facts facts known)
 

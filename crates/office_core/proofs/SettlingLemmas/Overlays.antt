@@ -107,8 +107,8 @@ goes_on laws (fact.Poll poll) facts o reported h recorded low = absurd reported
 goes_on laws (fact.Outcome ended) facts o reported h recorded low = refl
 goes_on laws (fact.Reply reply) facts o reported h recorded low = absurd reported
 
--- True if `following` is the state of the meter after the first `i` records of a pending write
--- (records not yet stored).
+-- True if the second state is the state of the meter after the given number of records of a pending
+-- write (records not yet stored).
 abbrev pub StandsAfterFirst : Installation → List Fact → ℕ → Installation → Type 0
 StandsAfterFirst row facts i following = (known : List Fact) → AreReported facts → AreLawful (reverse facts ++ known)
     → IsIn known row → following ≡ installation_of (reverse (take i facts) ++ known) row.opening
@@ -164,8 +164,8 @@ none_open facts known register reported none =
     none_by None h = refl
     none_by (Some opening) h = absurd (cc)
 
--- The state of an accounting register's open meter after a pending write is its state in the store,
--- advanced by the pending records.
+-- After a pending write, the state of an accounting register's open meter is its state in the
+-- store, advanced by the pending records.
 found_open : (facts known : List Fact) (register : List ℕ) (row new : Installation) (found : Option Opening) → AreReported facts → AreLawful (reverse facts ++ known)
     → IsAfterFacts row facts new → installed_at known register ≡ found → Some row ≡ option_map (installation_of known) found
     → if_open new ≡ open_at (reverse facts ++ known) register

@@ -8,7 +8,7 @@ use Rattle.office_books.specs.Facts.{as_opening, openings_in}
 use Rattle.office_books.specs.Lawful.{AreLawful}
 use Rattle.office_core.specs.Settling.Drafts.{IsReported, AreReported}
 
--- True if the lookup `f` finds nothing in the record of any poll outcome or reading.
+-- True if the lookup finds nothing in the record of any poll outcome or reading.
 abbrev pub SkipsReported : {X : Type 0} → (Fact → Option X) → Type 0
 SkipsReported f = (x : Fact) → IsReported x → f x ≡ None
 
@@ -51,14 +51,13 @@ pub reported_last : (facts : List Fact) (x : Fact) → AreReported facts → IsR
 reported_last [] x reported is = (is, tt)
 reported_last (f ∷ facts) x reported is = (reported.0, reported_last facts x reported.1 is)
 
--- If a list of records follows the rules (`AreLawful`), then its earlier records alone follow the
--- rules.
+-- If all records of a list are valid (`AreLawful`), then its earlier records alone are valid.
 pub lawful_before : (new facts : List Fact) → AreLawful (new ++ facts) → AreLawful facts
 lawful_before [] facts h = h
 lawful_before (x ∷ new) facts h = lawful_before new facts h.1
 
--- If all records of a pending write (records not yet stored) follow the rules, then its first `i`
--- records follow the rules.
+-- If all records of a pending write (records not yet stored) are valid, then its first `i` records
+-- are valid.
 pub lawful_first : (facts known : List Fact) (i : ℕ) → AreLawful (reverse facts ++ known) → AreLawful (reverse (take i facts) ++ known)
 lawful_first facts known i lawful =
     lawful_before (reverse (drop i facts)) (reverse (take i facts) ++ known)

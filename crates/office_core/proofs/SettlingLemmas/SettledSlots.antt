@@ -15,8 +15,8 @@ use Rattle.office_core.specs.Sessions.Keeping.{KeepsSlot, KeepsSlots}
 use Rattle.office_core.proofs.SettlingLemmas.Growing.{grows_like, grows_then, before_outcomes}
 use Rattle.office_core.specs.Settling.Settling.{MayReach, MayReachAll, SettleNothing}
 
--- True if the event was applied to the first `i` device slots (devices with their connections), and
--- the other slots are unchanged.
+-- True if the event was applied to the given number of first device slots (devices with their
+-- connections), and the other slots are unchanged.
 abbrev pub FirstReached : (number at : ℕ) → Event → ℕ → List Slot → List sessions.Slot → Type 0
 FirstReached number at e zero now kept = MayReachAll at now kept
 FirstReached number at e (suc i) [] [] = Unit {0}

@@ -126,7 +126,7 @@ is_loud holds clean unchanged old between new before after call first draft o t 
     none_first [] ys h = refl
     none_first (x ∷ xs) ys h = absurd (cc)
 
--- The rest of a chunk of received bytes, beginning at index `at`.
+-- The rest of a chunk of received bytes, beginning at the given index.
 abbrev pub slice_at : ℕ → List ℕ → List ℕ
 slice_at at piece = take (length piece - at) (drop at piece)
 
@@ -167,7 +167,7 @@ called_by_event mid new happening settled reports = record {
   reported = λ events reported before. reports.reported events [] reported before;
 }
 
--- If a chunk of bytes ends no poll, then the first bytes of the chunk end no poll.
+-- If a chunk of received bytes ends no poll, then no prefix of the chunk ends a poll.
 pub shorter_settles : (longer : (timeout : ℕ) (events : List Event) (moment : ℕ) (piece more : List ℕ) →
     outcomes_at timeout events (Piece moment (piece ++ more)) ≡ [] → outcomes_at timeout events (Piece moment piece) ≡ [])
     → (old : State) (moment n : ℕ) (piece : List ℕ) → SettlesNothing old (Piece moment piece) → SettlesNothing old (Piece moment (take n piece))

@@ -44,8 +44,8 @@ ready_on device kept events id count keeps ready =
     subst (λ t. IsReady t device.window events id count) keeps.timeout
     (subst (λ w. IsReady kept.timeout w events id count) keeps.window ready)
 
--- The state after the first `i` of the reads that a session can start. The list `made` has these
--- reads, and the other reads may follow.
+-- The state after the first `i` of the reads that a session can start. The reads that the session
+-- can start are these `i` reads, followed by the reads that it can start next.
 pub record SoFar (number at : ℕ) (device : Device) (events : List session.Event) (spans : List ReadSpan) (i : ℕ) : Type 0 where
   pub made : List Send
   pub long : length made ≡ i
@@ -63,8 +63,8 @@ begin number at device events spans = record {
       ∙ ap (λ (es : List session.Event). sends_on (number + 0) at device es spans) (sym (append-nil events));
 }
 
--- If one more read can be started on the Modbus session, then starting it begins the poll with the
--- next poll number.
+-- True if the Modbus session can start one more read. The read then becomes the poll with the next
+-- poll number.
 pub record Next (number at : ℕ) (device : Device) (here : List session.Event) (span : ReadSpan) (rest : List ReadSpan) : Type 0 where
   pub can : is_startable device (Some here) ≡ true
   pub first : sends_on number at device here (span ∷ rest)
@@ -90,8 +90,8 @@ starts_further at device events made send =
     append_assoc events (map (start_by at device) made) (start_by at device send ∷ [])
     ∙ ap (λ (es : List session.Event). events ++ es) (sym (map-append (start_by at device) made (send ∷ [])))
 
--- The condition and the result of starting one more read. The read can be started if fewer reads
--- were started than the Modbus session allows.
+-- True if the Modbus session can start one more read after `i` reads. The record also has the state
+-- after this read is started.
 pub record Further (number at : ℕ) (device : Device) (events : List session.Event) (spans : List ReadSpan) (i : ℕ) (made : List Send) (span : ReadSpan) : Type 0 where
   pub can : is_startable device (Some (events ++ map (start_by at device) made)) ≡ true
   pub so_far : SoFar number at device events spans (i + 1)
@@ -203,7 +203,8 @@ polls_after at number id device here span made facts more one is next =
     ∙ ap (λ (n : ℕ). map (poll_by at device) made ++ poll_by at device (record { number = number; id = n; span = span }) ∷ []) next
     ∙ sym (map-append (poll_by at device) made ((record { number = number; id = session.next_id here; span = span }) ∷ []))
 
--- After one more read is started, the Modbus session in memory agrees with the session's events.
+-- After one more read is started, the Modbus session in memory is in the state that follows from
+-- the session's events.
 pub keeps_after : (at : ℕ) (device : Device) (events : List session.Event) (made : List Send) (send : Send) (kept new : State)
     → KeepsSession device kept (events ++ map (start_by at device) made) → (new.timeout ≡ kept.timeout) × (new.window ≡ kept.window)
     → Stands new ((events ++ map (start_by at device) made) ++ start_by at device send ∷ [])

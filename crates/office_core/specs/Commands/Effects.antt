@@ -36,9 +36,9 @@ abbrev pub replies_by : (at : ℕ) → Event → List Fact
 replies_by at (event.Asked asked) = reply_by at asked
 replies_by at _ = []
 
--- The guarantees of writing records to the store, if the resulting records follow the rules
--- (`AreLawful`). On `Ok` the store has all of the records. On an error the store has none of them,
--- but a crash may leave all of them in the store.
+-- The guarantees of writing records to the store, if the resulting records are valid (`AreLawful`).
+-- On `Ok` the store has all of the records. On an error the store has none of them, but after a
+-- crash it may have all of them.
 pub record Tries (old new : Ledger) (facts : List Fact)
     (result : Result (Unit {0}) BooksFault) : Type 0 where
   pub booked : (known : List Fact) → old.holds known → AreLawful (with_facts facts known)
@@ -81,8 +81,8 @@ abbrev pub facts_obeyed : (at : ℕ) → List sessions.Slot → List Fact → Co
 facts_obeyed at slots known c replies =
     with_facts (added_by (next_poll known) at slots known c ++ replies) known
 
--- True if executing the command changes the store from its earlier records to the records after the
--- command. The premise is that the later records follow the rules (`AreLawful`).
+-- States that, if the records after a command are valid (`AreLawful`), executing the command
+-- changes the store from its earlier records to these records.
 abbrev pub MovesOnBy : {T : Type 0} → (at : ℕ) → Command → (replies : List Fact)
     → (old new : Ledger) → Result T BooksFault → Type 0
 MovesOnBy at c replies old new result =
@@ -153,41 +153,42 @@ frames_by at slot known c = starts.frames_of (next_poll known) at (spans_by know
 abbrev pub slot_by : (at : ℕ) → sessions.Slot → List Fact → Command → sessions.Slot
 slot_by at slot known c = starts.slot_sent (next_poll known) at (spans_by known c) slot
 
--- The records after a command starts polls: the records `known`, then the started polls, then the
--- stored answer to the request.
+-- The records after a command starts polls: the records before the command, then the started polls,
+-- then the stored answer to the request.
 abbrev pub facts_started : (at : ℕ) → sessions.Slot → List Fact → Command → (replies : List Fact)
     → List Fact
 facts_started at slot known c replies = with_facts (polls_by at slot known c ++ replies) known
 
--- True if the property `so` holds for every device slot (device with its session) that agrees with
--- the slot `kept` in memory. The premise is that the number of recorded polls is within its limit.
+-- States that a property holds for every device slot (device with its session) that agrees with the
+-- slot `kept` in memory. It states nothing if the number of recorded polls exceeds its limit.
 abbrev pub WhereStarted : (kept : Slot) → (sessions.Slot → List Fact → Type 0) → Type 0
 WhereStarted kept so = (slot : sessions.Slot) (known : List Fact) → KeepsSlot kept slot
     → next_poll known ≤ MAX_POLLS + 1 → so slot known
 
--- The answer to a command that starts polls: the number of its first poll, the number of started
--- polls, and the number of requested reads.
+-- The answer to a command that starts polls: the sequence number of its first poll, how many polls
+-- were started, and how many reads were requested.
 abbrev pub start_answer : (at : ℕ) → sessions.Slot → List Fact → Command → Answer
 start_answer at slot known c =
     answer.Started (next_poll known) (length (sends_by at slot known c)) (reads_in_all known c)
 
--- True if a command that starts polls writes its poll records and the stored answer to its request.
--- The premise is that the resulting records follow the rules (`AreLawful`).
+-- States that, if the resulting records are valid (`AreLawful`), a command that starts polls writes
+-- its poll records and the stored answer to its request.
 abbrev pub BooksStart : (at : ℕ) → Command → (replies : List Fact) → (old new : Ledger)
     → Result Done BooksFault → sessions.Slot → (known : List Fact) → Type 0
 BooksStart at c replies old new result slot known =
     let later = facts_started at slot known c replies in
     AreLawful later → Moves old new known later result
 
--- True if after the command succeeds, the Modbus session of the device slot has the polls that the
--- command started.
+-- States that, if the command succeeds, the Modbus session of the device slot then has the polls
+-- that the command started.
 abbrev pub StandsStarted : (at : ℕ) → Command → (old new : Ledger) → (after : Slot)
     → Result Done BooksFault → sessions.Slot → (known : List Fact) → Type 0
 StandsStarted at c old new after result slot known =
     starts.IsBefore at slot → old.holds known → new.is_clean
     → OnOk result (KeepsSlot after (slot_by at slot known c))
 
--- True if the answer equals `start_answer` whenever the command to start polls succeeds.
+-- States that, if a command to start polls succeeds, its answer has the correct poll number and
+-- counts.
 abbrev pub AnswersStart : (at : ℕ) → Command → (old new : Ledger)
     → Result Done BooksFault → sessions.Slot → (known : List Fact) → Type 0
 AnswersStart at c old new result slot known =

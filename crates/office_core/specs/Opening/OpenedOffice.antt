@@ -1,4 +1,4 @@
--- The records that an opening of the program adds to its store, and the slots (devices with their
+-- The records that an opening of the store adds to the store, and the slots (devices with their
 -- connections) after the opening.
 use Rattle.std.specs.Prelude.{◌≡◌, ℕ, true, ◌∷◌, None, Result, IfOk}
 use Rattle.std.specs.declared.alloc.Global.{Global}
@@ -19,22 +19,23 @@ use Rattle.office_books.specs.Ledgers.{Ledger, Moves}
 unfoldable pub opened : Device → Slot
 opened device = record { device = device; session = None; idle = λ i. true }
 
--- True if the program may be opened at timestamp `at` after `past`, a list of accepted openings and
--- events.
+-- True if the program may open its store at timestamp `at` after `past`, a list of accepted
+-- openings and events.
 pub record MayOpen (past : History) (at : ℕ) : Type 0 where
   pub is_past : IsPast past
   pub accepted : opening_refusal_of (facts_of past) at ≡ None
 
--- The guarantees of an opening of the program. The opening records all pending polls as lost, or
--- none of them, and each device has a slot without a Modbus session.
+-- The guarantees of an opening of the store (program start). On `Ok` all pending polls are recorded
+-- as lost, and each device has a slot without a Modbus session. On an error the records are
+-- unchanged.
 pub record Opens (past : History) (at : ℕ) (old new : Ledger)
     (result : Result (Vec Slot Global) BooksFault) : Type 0 where
   pub books : Moves old new (facts_of past) (facts_of (Opened at ∷ past)) result
   pub slots : old.holds (facts_of past) → new.is_clean
       → IfOk result (λ slots. KeepsSlots slots.items (slots_of (Opened at ∷ past)))
 
--- True for the two reasons to refuse an opening of the program. Its timestamp is before the latest
--- record's timestamp, or above the limit.
+-- True for the two reasons to refuse an opening of the store. The opening's timestamp is before the
+-- latest record's timestamp, or above the limit.
 abbrev pub IsOfOpening : Refusal → Type 0
 IsOfOpening refusal.ClockBack = Unit {0}
 IsOfOpening refusal.Limit = Unit {0}

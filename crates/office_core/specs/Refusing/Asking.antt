@@ -9,14 +9,14 @@ use Rattle.office_events.specs.declared.refusals.Refusal.TheVariants as refusal
 use Rattle.office_events.specs.declared.refusals.StoreCause.{StoreCause}
 use Rattle.office_events.specs.declared.refusals.StoreCause.TheVariants as store
 
--- True if the refusal of the command depends only on the devices, so that the program needs no
--- query of the store.
+-- True if the program decides from the devices alone whether to refuse the command, without a query
+-- of the store.
 abbrev pub IsOfDevices : Command → Type 0
 IsOfDevices (command.AddDevice c) = Unit {0}
 IsOfDevices (command.PutList c) = Unit {0}
 IsOfDevices _ = ⊥
 
--- True if the refusal of the event depends only on the devices, so that the program needs no query
+-- True if the program decides from the devices alone whether to refuse the event, without a query
 -- of the store.
 abbrev pub AsksNoBooks : Event → Type 0
 AsksNoBooks (event.Connected given) = Unit {0}
@@ -49,8 +49,8 @@ abbrev pub IsFull : StoreCause → Type 0
 IsFull store.Refused = Unit {0}
 IsFull _ = ⊥
 
--- True if the reason for the refusal is in the event. The refusal is not a failure, a stop, or a
--- reused idempotency key.
+-- True if the event itself is the reason for the refusal. The reason is not a failure, a stopped
+-- program or a reused idempotency key.
 abbrev pub IsOfEvent : Refusal → Type 0
 IsOfEvent (refusal.Store why) = IsFull why
 IsOfEvent refusal.Memory = ⊥

@@ -49,8 +49,8 @@ abbrev pub entry_refusal : Arrival → (off_scale off_limits : Bool) → Install
 entry_refusal arrival off_scale off_limits row e =
     find (speaks_of_entry arrival off_scale off_limits row e) reasons
 
--- True if the timestamp and the numbers of the command are in range, and a 32-bit counter can show
--- the counts of the entry.
+-- True if the timestamp and the numbers of the command are in range, and the entry's counter values
+-- fit a 32-bit counter.
 pub record IsEntryInRange (arrival : Arrival) (off_scale off_limits : Bool)
     (e : Entry) : Type 0 where
   pub not_back : arrival.is_back ≡ false
@@ -59,8 +59,8 @@ pub record IsEntryInRange (arrival : Arrival) (off_scale off_limits : Bool)
   pub field : off_limits ≡ false
   pub shown : CanBeShown MAX_RANGE e
 
--- True if the result of the check agrees with the entry. An accepted entry is in range, and a
--- refusal has its reason in the entry or in its command.
+-- True if the result of checking an entry is correct for the entry. If the entry was accepted, it
+-- is in range. If it was refused, the stated reason can apply to an entry or its command.
 abbrev pub BefitsEntry : Arrival → (off_scale off_limits : Bool) → Entry → Option Refusal → Type 0
 BefitsEntry arrival off_scale off_limits e None = IsEntryInRange arrival off_scale off_limits e
 BefitsEntry arrival off_scale off_limits e (Some why) = IsOfEvent why

@@ -14,7 +14,7 @@ abbrev pub kept_as : Repeat → Result CommandKind Refusal
 kept_as (Same kind) = Ok kind
 kept_as Other = Err Reused
 
--- True if a refusal with a known idempotency key has the reason `Reused`.
+-- True if a request with a known idempotency key is refused for no reason other than `Reused`.
 abbrev pub IsReusedIfRefused : Option (Result CommandKind Refusal) → Type 0
 IsReusedIfRefused answer = IfSome answer (λ r. IfErr r (λ why. why ≡ Reused))
 

@@ -21,8 +21,9 @@ abbrev pub arrival_of : (latest at : ℕ) → Arrival
 arrival_of latest at =
     record { moment = at; is_back = nat_lt at latest; is_beyond = nat_lt moment_limit at }
 
--- The timestamp `at` of a request with an idempotency key, with the results of two checks.
--- `is_beyond` is also true if the key's caller name is invalid or its number exceeds the limit.
+-- The timestamp `at` of a request with an idempotency key, with the results of two checks. The
+-- check of the limit also fails if the key's caller name is invalid or its number exceeds the
+-- limit.
 abbrev pub request_arrival : (latest at : ℕ) → Asked → Arrival
 request_arrival latest at asked = record {
   moment = at;
@@ -46,13 +47,13 @@ speaks_against slots facts arrival c why =
 abbrev pub refusal_under : List sessions.Slot → List Fact → Arrival → Command → Option Refusal
 refusal_under slots facts arrival c = find (speaks_against slots facts arrival c) reasons
 
--- True if `r` is the correct decision on the command (a reason to refuse it, or none) for these
--- records and any devices.
+-- True if a decision on the command (a reason to refuse it, or none) is correct for these records
+-- and any devices.
 abbrev pub IsWhy : Arrival → Command → List Fact → Option Refusal → Type 0
 IsWhy arrival c facts r = (slots : List sessions.Slot) → r ≡ refusal_under slots facts arrival c
 
--- True if `r` is the correct decision on the command (a reason to refuse it, or none) for these
--- records and device connections.
+-- True if a decision on the command (a reason to refuse it, or none) is correct for these records
+-- and device connections.
 abbrev pub IsWhyAmong : List Slot → Arrival → Command → List Fact → Option Refusal → Type 0
 IsWhyAmong kept arrival c facts r =
     (slots : List sessions.Slot) → KeepsSlots kept slots → r ≡ refusal_under slots facts arrival c
@@ -64,14 +65,14 @@ pub record ComesInRange (arrival : Arrival) (c : Command) : Type 0 where
   pub within : arrival.is_beyond ≡ false
   pub command : IsCommandInRange arrival.moment c
 
--- True if the result of the check agrees with the command. An accepted command is in range, and a
--- refusal has its reason in the command.
+-- True if the result of checking a command is correct for the command. If the command was accepted,
+-- it is in range. If it was refused, the stated reason is of a kind that an event itself can have.
 abbrev pub Befits : Arrival → Command → Option Refusal → Type 0
 Befits arrival c None = ComesInRange arrival c
 Befits arrival c (Some why) = IsOfEvent why
 
--- True if this reason to refuse applies to a device event. The timestamp is wrong, the device is
--- unknown, or the device is unexpectedly connected or not connected.
+-- True if this reason to refuse applies to a device event. The possible reasons are a wrong
+-- timestamp, an unknown device, and a device that is unexpectedly connected or not connected.
 abbrev pub speaks_of_session : Arrival → (is_unknown is_busy : Bool) → Refusal → Bool
 speaks_of_session arrival is_unknown is_busy refusal.NotFound = is_unknown
 speaks_of_session arrival is_unknown is_busy refusal.Busy = is_busy

@@ -10,8 +10,8 @@ use Rattle.office_books.specs.declared.faults.BooksFault.{BooksFault}
 use Rattle.office_books.specs.Ledgers.{Ledger}
 use Rattle.office_core.specs.Refusing.Asking.{IsOfSession}
 
--- True if the result, computed from the connections in memory and the store, is the reason to
--- refuse the event, if any. The premise is that no wrong result of the store went undetected.
+-- States that, if every wrong result of the store was detected, the result is the reason to refuse
+-- the event, if any. The result is computed from the connections in memory and the store.
 abbrev pub ReportsWhy : (old new : Ledger) → List Slot → (latest at : ℕ) → Event
     → Result (Option Refusal) BooksFault → Type 0
 ReportsWhy old new kept latest at e result =

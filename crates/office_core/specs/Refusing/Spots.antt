@@ -17,8 +17,8 @@ use Rattle.office_core.specs.declared.refusing.voids.Spot.{Spot}
 use Rattle.office_core.specs.declared.refusing.voids.Spot.TheVariants as spot
 use Rattle.office_core.specs.Refusing.Reasons.{comes_wrongly}
 
--- True if the meter's journal (history) has neither the opening nor an entry at the sequence
--- number.
+-- True if the sequence number is not that of the opening or of an entry in the meter's journal
+-- (history).
 abbrev pub is_nothing : Spot → Bool
 is_nothing spot.Nothing = true
 is_nothing spot.Opening = false
@@ -31,21 +31,20 @@ entry_in spot.Nothing = None
 entry_in spot.Opening = None
 entry_in (spot.Entry place) = Some place
 
--- True if a void (cancellation) of the entry `found` would let the next entry be rejected, because
--- the meter's total energy would exceed its limit.
+-- True if a void (cancellation) of the given entry would cause the next entry to be rejected. The
+-- reason is that the meter's total energy would exceed its limit.
 abbrev pub is_full : Option EntryContext → Bool
 is_full found = is_held_for cause.TotalFull (verdict_at found)
 
 -- True if voids (cancellations) of the two entries have the same result. Both entries exist or
--- neither exists, both can be cancelled or neither, and the next entry is accepted or rejected
--- alike.
+-- neither does, both can be voided or neither can, and the next entry gets the same verdict.
 pub record IsJudgedAs (own found : Option EntryContext) : Type 0 where
   pub there : is_some found ≡ is_some own
   pub voidable : is_not_voidable found ≡ is_not_voidable own
   pub verdict : verdict_at found ≡ verdict_at own
 
--- True if `found` is the meter's opening (first entry) or entry at the sequence number, or an entry
--- whose void (cancellation) has the same result.
+-- True if a void (cancellation) of the item `found` has the same result as a void of the meter's
+-- item at the sequence number `place`. The two items may differ in other respects.
 pub record IsAt (facts : List Fact) (meter : Option (List ℕ)) (place : ℕ)
     (found : Spot) : Type 0 where
   pub there : is_nothing found
@@ -60,8 +59,8 @@ abbrev pub IsSoundSpot : Spot → Type 0
 IsSoundSpot (spot.Entry place) = IsSound place.before
 IsSoundSpot _ = Unit {0}
 
--- True if this reason to refuse applies to a void (cancellation) of `found`, the item of a meter's
--- journal at a sequence number.
+-- True if this reason to refuse applies to a void (cancellation) of the given item of a meter's
+-- journal (history).
 abbrev pub speaks_of_void : Arrival → Spot → Refusal → Bool
 speaks_of_void arrival found refusal.NotFound = is_nothing found
 speaks_of_void arrival found refusal.NotVoidable = is_not_voidable (entry_in found)
@@ -69,8 +68,8 @@ speaks_of_void arrival found (refusal.NotPlausible why) =
     is_held_for why (verdict_at (entry_in found))
 speaks_of_void arrival found why = comes_wrongly arrival why
 
--- The first reason to refuse a void (cancellation) of `found`, the item of a meter's journal at a
--- sequence number, or `None`.
+-- The first reason to refuse a void (cancellation) of the given item of a meter's journal
+-- (history), or `None`.
 abbrev pub void_refusal : Arrival → Spot → Option Refusal
 void_refusal arrival found = find (speaks_of_void arrival found) reasons
 

@@ -9,7 +9,7 @@ use Rattle.office_books.specs.Facts.{moment_limit, request_limit}
 use Rattle.office_books.specs.Sessions.{command_in}
 use Rattle.office_books.specs.Refusals.{asks_bad_scale, asks_bad_field}
 
--- True if each count in the command fits a 32-bit counter.
+-- True if each counter value in the command fits a 32-bit counter.
 abbrev pub FitsCounter : Command → Type 0
 FitsCounter (command.Exchange c) = c.last ≤ MAX_SHOWN
 FitsCounter (command.Reset c) = (c.before ≤ MAX_SHOWN) × (c.after ≤ MAX_SHOWN)
@@ -18,7 +18,7 @@ FitsCounter (command.Manual c) = c.raw ≤ MAX_SHOWN
 FitsCounter (command.Close c) = c.raw ≤ MAX_SHOWN
 FitsCounter _ = Unit {0}
 
--- True if the scale factors, numbers and counts of the command are in range.
+-- True if the scale factors, counter values and other numbers of the command are in range.
 pub record IsCommandInRange (at : ℕ) (c : Command) : Type 0 where
   pub scale : asks_bad_scale c ≡ false
   pub field : asks_bad_field at c ≡ false
@@ -36,8 +36,8 @@ IsRequestInRange (event.Asked asked) =
     (is_some asked.caller ≡ true) × (asked.number ≤ request_limit)
 IsRequestInRange _ = Unit {0}
 
--- True if the event's timestamp is neither before the latest accepted event nor above the limit,
--- and the event's numbers are in range.
+-- True if the event's timestamp is at most the limit and not before the latest accepted event, and
+-- the event's numbers are in range.
 pub record IsInRange (latest at : ℕ) (e : Event) : Type 0 where
   pub not_back : latest ≤ at
   pub moment : at ≤ moment_limit

@@ -34,25 +34,25 @@ abbrev pub AreReported : List Fact → Type 0
 AreReported [] = Unit {0}
 AreReported (f ∷ facts) = IsReported f × AreReported facts
 
--- True if `new` is the pending write (records not yet stored) `old` with the additional records
--- `more` and notifications `reports`.
+-- True if `new` is the pending write (records not yet stored) `old` with the given additional
+-- records and notifications.
 pub record IsAdded (known : List Fact) (old new : PendingWrite) (more : List Fact → List Fact)
     (reports : List Fact → List Note) : Type 0 where
   pub facts : so_far new known ≡ more (so_far old known)
   pub notes : new.notes.items ≡ old.notes.items ++ reports (so_far old known)
   pub reported : AreReported new.facts.items
 
--- True if the pending write (records not yet stored) gains the records `more` and the notifications
--- `reports`. The premises are that the rules accept the resulting records, and that no wrong result
--- of the store went undetected.
+-- States that the pending write (records not yet stored) gains the given records and notifications
+-- if two conditions hold. The resulting records are valid (`AreLawful`), and every wrong result of
+-- the store was detected.
 abbrev pub Grows : (holds : List Fact → Type 0) (clean : Type 0) (old new : PendingWrite)
     → (List Fact → List Fact) → (List Fact → List Note) → Type 0
 Grows holds clean old new more reports =
     (known : List Fact) → holds known → clean → AreReported old.facts.items
     → AreLawful (more (so_far old known)) → IsAdded known old new more reports
 
--- True if a successful call adds the records `more` and the notifications `reports` to the pending
--- write (records not yet stored).
+-- True if a successful call adds the given records and notifications to the pending write (records
+-- not yet stored).
 abbrev pub Adds : {T : Type 0} → (old new : Ledger) → (before after : PendingWrite) → Result T BooksFault
     → (List Fact → List Fact) → (List Fact → List Note) → Type 0
 Adds old new before after result more reports =

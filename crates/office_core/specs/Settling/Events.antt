@@ -24,7 +24,8 @@ pub record IsNext (past : History) (slots : List Slot) (at : ℕ) (e : Event) : 
 -- The guarantees of processing a device event. On `Ok` the store has all poll outcomes and readings
 -- of the event, the sessions have processed the event, and the notifications are correct.
 --
--- On an error the store's records are unchanged, but a crash may leave the records after the event.
+-- On an error the store's records are unchanged, but after a crash the store may have all records
+-- of the event.
 pub record Settles (past : History) (at : ℕ) (e : Event) (old new : Ledger) (after : List Slot)
     (result : Result (Vec Note Global) BooksFault) : Type 0 where
   pub slots : OnOk result (KeepsSlots after (slots_of (Fed at e ∷ past)))

@@ -43,8 +43,8 @@ pub record IsIn (facts : List Fact) (row : Installation) : Type 0 where
   pub recorded : IsRecorded facts row.opening
   pub stands : row ≡ installation_of facts row.opening
 
--- True if `following` is the state that the given installed meter has after the pending outcomes
--- and readings `facts` are recorded.
+-- True if the second state is the state of the given installed meter after the pending outcomes and
+-- readings `facts` are recorded.
 abbrev pub IsAfterFacts : Installation → (facts : List Fact) → Installation → Type 0
 IsAfterFacts row facts following =
     (known : List Fact) → AreReported facts → AreLawful (reverse facts ++ known) → IsIn known row

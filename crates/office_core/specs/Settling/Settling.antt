@@ -27,8 +27,8 @@ IsSettling (event.Gone given closing) = Unit {0}
 IsSettling (event.Command c) = ⊥
 IsSettling (event.Asked asked) = ⊥
 
--- The session event that an event of the program causes at a device. `None` if the program's event
--- does not concern the device's session.
+-- The event of a device's Modbus session that an event of the program causes. `None` if the
+-- program's event does not concern the session.
 abbrev pub happening_on : (at : ℕ) → Event → Device → Option session.Event
 happening_on at (event.Bytes given piece) device =
     if is_named given device.name then Some (session.Piece at piece) else None
@@ -37,14 +37,14 @@ happening_on at (event.Gone given closing) device =
     if is_named given device.name then Some (session.Close at closing) else None
 happening_on at _ device = None
 
--- True if the slot `kept` in memory agrees with `slot` (a device with its session), and no event of
--- the session is later than `at`.
+-- True if the slot `kept` in memory has the device and the session of `slot` (`KeepsSlot`). No
+-- event of the session may be later than `at`.
 pub record MayReach (at : ℕ) (kept : Slot) (slot : sessions.Slot) : Type 0 where
   pub keeps : KeepsSlot kept slot
   pub before : none_later at slot.present
 
--- True if each device slot (device with its session) in memory agrees with the given slot at the
--- same index. No event of a slot's session is later than `at`.
+-- True if each slot in memory has the device and the session of the given slot at the same index.
+-- No event of a session may be later than the timestamp.
 abbrev pub MayReachAll : ℕ → List Slot → List sessions.Slot → Type 0
 MayReachAll at [] [] = Unit {0}
 MayReachAll at (k ∷ kept) (slot ∷ slots) = MayReach at k slot × MayReachAll at kept slots
@@ -71,9 +71,9 @@ pub record ReportsSettled (holds : List Fact → Type 0) (clean : Type 0) (befor
       let outcomes = session.outcomes_at before.timeout events happening in
       Grows holds clean first last (with_outcomes at outcomes) (outcomes_notes at outcomes)
 
--- True if a successful call passed the event to the session and added all of its outcomes to the
--- pending write (records not yet stored). The premise is that the event is not earlier than the
--- session's last event.
+-- States that, if the event is not earlier than the session's last event, a successful call passes
+-- the event to the session. The call adds all outcomes of the event to the pending write (records
+-- not yet stored).
 abbrev pub ReportsAll : {T : Type 0} → (old new : Ledger) → (before after : State) → session.Event
     → (first last : PendingWrite) → Result T BooksFault → Type 0
 ReportsAll old new before after happening first last result =
@@ -106,7 +106,7 @@ SettleNothing number at e (slot ∷ slots) =
     (settled_by number at e slot ≡ []) × SettleNothing number at e slots
 
 -- True if the outcomes and readings that the event causes on this device's session are added to the
--- pending write (records not yet stored). Any next poll number is possible.
+-- pending write (records not yet stored). The next poll number does not matter.
 abbrev pub AddsOfSlot : {T : Type 0} → (old new : Ledger) → (at : ℕ) → Event → Slot
     → (before after : PendingWrite) → Result T BooksFault → Type 0
 AddsOfSlot old new at e kept before after result =

@@ -16,8 +16,8 @@ use Rattle.office_books.specs.Sessions.{Slot, Send, start_by, sends_on, sends_at
 use Rattle.office_books.specs.History.{poll_by}
 use Rattle.office_books.specs.Notes.{frame_of}
 
--- The longest prefix of the reads in `spans` that can be started on the device's session. The
--- prefix is empty if the device has no session.
+-- The longest prefix of the given reads that can be started on the device's session. The prefix is
+-- empty if the device has no session.
 abbrev pub sends_of : (number at : ℕ) → List ReadSpan → Slot → List Send
 sends_of number at spans slot = sends_at number at slot.device slot.present spans
 
@@ -37,13 +37,13 @@ sent_from at slot sends None = slot
 sent_from at slot sends (Some before) =
     with_happenings slot before (map (start_by at slot.device) sends)
 
--- The device slot after the given reads are started on its Modbus session, as many as the session
--- allows.
+-- The device slot after as many of the given reads as its Modbus session allows were started on
+-- this session.
 abbrev pub slot_sent : (number at : ℕ) → List ReadSpan → Slot → Slot
 slot_sent number at spans slot = sent_from at slot (sends_of number at spans slot) slot.present
 
--- True if exactly `count` of these reads can be started on the session, for any next poll number
--- and timestamp.
+-- True if exactly the given number of these reads can be started on the session, for any next poll
+-- number and timestamp.
 abbrev pub CountsSends : (device : Device) (kept : State) → List ReadSpan → ℕ → Type 0
 CountsSends device kept spans count =
     (number at : ℕ) (events : List session.Event) → KeepsSession device kept events
@@ -57,21 +57,21 @@ GivesPolls device kept number at spans result =
     (events : List session.Event) → KeepsSession device kept events → IfOk result (λ facts.
     facts.items ≡ map (poll_by at device) (sends_on number at device events spans))
 
--- True if an event of the session is later than `at`. Otherwise true if the property `so` holds for
--- the session's events and the reads that can be started at `at`.
+-- States that, if no event of the session is later than `at`, a property holds for the session's
+-- events and the startable reads.
 abbrev pub WhereSent : (device : Device) (kept : State) → (number at : ℕ) → List ReadSpan
     → (List session.Event → List Send → Type 0) → Type 0
 WhereSent device kept number at spans so =
     (events : List session.Event) → KeepsSession device kept events → last_moment events ≤ at
     → so events (sends_on number at device events spans)
 
--- True if the Modbus session's state equals the state after `events` and after the start of the
--- given reads at timestamp `at`.
+-- True if the Modbus session's state equals the state after the given events and after the start of
+-- the given reads at timestamp `at`.
 abbrev pub KeepsStarts : (device : Device) (at : ℕ) (kept : State) → List session.Event → List Send
     → Type 0
 KeepsStarts device at kept events sends =
     KeepsSession device kept (events ++ map (start_by at device) sends)
 
--- True if no event of the device slot's Modbus session is later than `at`.
+-- True if no event of the device slot's Modbus session is later than the timestamp.
 abbrev pub IsBefore : ℕ → Slot → Type 0
 IsBefore at slot = none_later at slot.present

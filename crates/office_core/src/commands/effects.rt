@@ -191,8 +191,8 @@ fn obey<B: Books>(
 /// Executes an accepted event that requests a command.
 ///
 /// The command's records and the stored answer to the request are written together. The command's
-/// polls are started, and a new device gets a slot for its connection. An error changes neither the
-/// connections nor the records.
+/// polls are started, and a new device gets a slot for its connection. After an error, the
+/// connections and the records are unchanged.
 pub fn carry_out<B: Books>(
     alloc: Global,
     slots: &mut Vec<Slot>,

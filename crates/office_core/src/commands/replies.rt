@@ -45,8 +45,8 @@ fn kept_of(moment: u64, asked: &Asked) -> Result<Option<Fact>, AllocError>
     })))
 }
 
-/// Returns the record of the answer to store for an event, or `None` if the event has no
-/// idempotency key.
+/// Returns the record that stores the answer to an event, or `None` if the event has no idempotency
+/// key.
 pub fn reply_of(moment: u64, event: &Event) -> Result<Option<Fact>, AllocError>
     ensures { IfOk result (λ kept. option_to_list kept ≡ replies_by moment event.now) }
 {

@@ -10,7 +10,8 @@ use office_books::{Books, BooksFault, read_count_at, reads_at};
 use office_events::{Command, StartRound};
 use std::alloc::{AllocError, Global};
 
-/// The Modbus reads that a command requests, and the number of all reads in the device's plan.
+/// The Modbus reads that a command requests, and the total number of reads in the device's plan
+/// (the reads that cover its points). For a single poll, the total is 1.
 #[derive(Drop)]
 pub struct Reads {
     pub spans: Vec<ReadSpan>,

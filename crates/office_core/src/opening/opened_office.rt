@@ -79,8 +79,8 @@ fn book_lost<B: Books>(alloc: Global, books: &mut B, moment: u64) -> Result<(), 
     books.book(facts)
 }
 
-/// Returns the reason to refuse an opening of the program, or `None` if the opening is acceptable.
-/// An opening is refused if its timestamp is before a record's timestamp, or above the limit.
+/// Returns the reason to refuse an opening of the store, or `None` if the opening is acceptable. An
+/// opening is refused if its timestamp is before a record's timestamp, or above the limit.
 ///
 /// Timestamps are in seconds since 1970-01-01 UTC.
 pub fn opening_refusal<B: Books>(books: &mut B, moment: u64) -> Result<Option<Refusal>, BooksFault>
@@ -99,8 +99,8 @@ pub fn opening_refusal<B: Books>(books: &mut B, moment: u64) -> Result<Option<Re
     Ok(None)
 }
 
-/// Records an acceptable opening of the program, and returns a slot without a Modbus session for
-/// each device.
+/// Records an acceptable opening of the store, and returns a slot without a Modbus session for each
+/// device.
 ///
 /// All pending polls are recorded as lost in one write. If no poll is pending, nothing is written.
 /// The slots are in the order in which the devices were added.

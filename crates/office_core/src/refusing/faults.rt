@@ -20,8 +20,8 @@ fn moment(given: &GivenEntry) -> u64
     }
 }
 
-/// Returns the count that the counter reached at the entry. For a `Step`, the count includes the
-/// full range of each rollover. For a `Change`, it is the count before the counter was set.
+/// Returns the counter value that was reached at the entry. For a `Step`, the value includes the
+/// full range of each rollover. For a `Change`, it is the value before the counter was set.
 fn reach(range: u64, given: &GivenEntry) -> u128
     requires { range ≤ MAX_RANGE }
     ensures value { result ≡ reached range (entry_of given.now) }
@@ -68,7 +68,8 @@ pub fn is_full(row: &Installation, given: &GivenEntry) -> bool
     u128::from(MAX_TOTAL) < u128::from(row.total) + energy
 }
 
-/// Returns true if the counter cannot show a count of the entry.
+/// Returns true if a counter value of the entry exceeds the greatest value that the counter can
+/// show.
 pub fn is_not_shown(row: &Installation, given: &GivenEntry) -> bool
     ensures { result ≡ entry_has_fault row.now (entry_of given.now) fault.NotBelowRange }
 {

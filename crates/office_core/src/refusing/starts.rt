@@ -21,8 +21,8 @@ use office_books::{Books, BooksFault, read_count_at};
 use office_events::{MAX_POLLS, Name, Refusal, StartPoll, StartRound, StoreCause};
 use poll_core::Session;
 
-/// Returns the number of polls that a Modbus session can start in a row, or 0 if the device has no
-/// session.
+/// Returns the number of polls that a Modbus session can start now, one after another, or 0 if the
+/// device has no session.
 fn session_room(kept: &Option<Session>) -> u64
     ensures { (device : Device) (present : Option (List session.Event))
         → KeepsPresent device kept.now present → HasRoomOn device present result }
@@ -33,8 +33,8 @@ fn session_room(kept: &Option<Session>) -> u64
     }
 }
 
-/// Returns the number of polls that the named device can start in a row, or `None` if no device has
-/// the name.
+/// Returns the number of polls that the named device can start now, one after another, or `None` if
+/// no device has the name.
 fn room(slots: &[Slot], given: &Option<Name>) -> Option<u64>
     ensures there { is_some result ≡ has_slot slots.now given.now }
     ensures room { (kept : List sessions.Slot) → KeepsSlots slots.now kept

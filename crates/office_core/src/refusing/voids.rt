@@ -15,7 +15,8 @@ use meter_journal::is_voidable;
 use office_books::{Books, BooksFault, verdict_at};
 use office_events::{EntryContext, Installation, Name, Refusal, VoidEntry};
 
-/// The opening (first entry) of a meter, or a later entry, as found at a sequence number.
+/// The item that a meter has at a sequence number: nothing, the opening (first entry), or a later
+/// entry.
 #[derive(Clone, Copy)]
 enum Spot {
     Nothing,
@@ -25,8 +26,8 @@ enum Spot {
     Entry(EntryContext),
 }
 
-/// Returns true if a void (cancellation) of the entry `found` would let the next entry be rejected,
-/// because the meter's total energy would exceed its limit.
+/// Returns true if a void (cancellation) of the entry `found` would cause the next entry to be
+/// rejected. The reason is that the meter's total energy would exceed its limit.
 fn is_full(found: &Option<EntryContext>) -> bool
     requires { IfSome found.now (λ p. IsSound p.before) }
     ensures { result ≡ spots.is_full found.now }
@@ -42,8 +43,8 @@ fn is_full(found: &Option<EntryContext>) -> bool
 }
 
 /// Returns the entry of a meter with sequence number `place`, or `None`. The result may have the
-/// meter's total energy instead of the energy before the entry, if the verdict on a void
-/// (cancellation) is the same.
+/// meter's total energy instead of the energy before the entry. With either energy, a void
+/// (cancellation) of the entry is accepted or refused for the same reason.
 ///
 /// The function first uses the meter's total energy and reads only the rows around the entry. It
 /// reads all rows only if the total energy might exceed its limit.
@@ -90,8 +91,8 @@ fn find_spot<B: Books>(books: &mut B, given: &Option<Name>, place: u64) -> Resul
     }
 }
 
-/// Returns the verdict on a meter entry that follows the meter's state `before`, or `None` if the
-/// entry sets the counter.
+/// Returns the verdict (accepted or rejected) on a meter entry that follows the meter's state
+/// `before`, or `None` if the entry sets the counter.
 fn verdict_on(before: &Installation, entry: &Entry) -> Option<Verdict>
     requires { IsSound before.now }
     ensures { result ≡ verdict_between before.now entry.now }
@@ -109,8 +110,8 @@ fn verdict_on(before: &Installation, entry: &Entry) -> Option<Verdict>
     }
 }
 
-/// Returns the verdict on the next valid entry if the entry with sequence number `place` were
-/// voided (cancelled). Returns `None` if no valid entry follows.
+/// Returns the verdict (accepted or rejected) that the next valid entry would get if the entry in
+/// `place` were voided (cancelled). Returns `None` if no valid entry follows.
 fn verdict(place: &EntryContext) -> Option<Verdict>
     requires { IsSound place.now.before }
     ensures { result ≡ verdict_at (Some place.now) }
@@ -138,8 +139,8 @@ fn refusal_of_voided_entry(place: &EntryContext) -> Option<Refusal>
     }
 }
 
-/// Returns the first reason to refuse a void (cancellation) of `spot`, an entry of a meter, or
-/// `None` if the entry can be voided.
+/// Returns the first reason to refuse a void (cancellation) of `spot`, an item of a meter's
+/// journal, or `None` if no reason applies.
 fn against(arrival: &Arrival, spot: &Spot) -> Option<Refusal>
     requires { spots.IsSoundSpot spot.now }
     ensures found { result ≡ spots.void_refusal arrival.now spot.now }

@@ -31,8 +31,8 @@ fn write_records<B: Books>(books: &mut B, facts: Vec<Fact>) -> Result<(), BooksF
     books.book(facts)
 }
 
-/// Applies a device event to the device connections, and records its outcomes and readings in one
-/// write.
+/// Applies a device event to the device connections, and records the event's poll outcomes and
+/// readings in one write.
 ///
 /// Returns a notification for each poll that ended, followed by notifications of the readings in
 /// the poll's response. If an event ends no poll, the function makes no query of the store and

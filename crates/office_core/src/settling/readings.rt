@@ -29,7 +29,7 @@ fn scale_of(span: ReadSpan, reply: &Reply, scale: ScaleSource) -> i16
 }
 
 /// Returns the reading of an accounting register (a named energy counter) in a Modbus response: its
-/// count and its scale factor.
+/// counter value and its scale factor.
 pub fn reading_of(at: u64, span: ReadSpan, reply: &Reply, register: &Register) -> Reading
     ensures { result ≡ readings.reading_of at span (words_of reply.now) register.now }
 {

@@ -26,7 +26,8 @@ fn count_on(kept: &Session, device: &Device, spans: &[ReadSpan]) -> usize
         .min(spans.len())
 }
 
-/// Returns the poll records of the first of the given reads, as many as the Modbus session allows.
+/// Returns the poll records of as many of the given reads as the Modbus session allows, from the
+/// first read on.
 fn poll_facts(
     alloc: Global,
     kept: &Session,
@@ -54,7 +55,8 @@ fn poll_facts(
     Ok(facts)
 }
 
-/// Returns the poll records of the first of the given reads, as many as the Modbus session allows.
+/// Returns the poll records of as many of the given reads as the Modbus session allows, from the
+/// first read on.
 ///
 /// `number` is the number of the first poll.
 pub fn polls_on(
@@ -74,7 +76,7 @@ pub fn polls_on(
     }
 }
 
-/// Starts the first of the given reads, as many as the Modbus session allows.
+/// Starts as many of the given reads as the Modbus session allows, from the first read on.
 fn start_each(
     kept: &mut Session,
     device: &Device,
@@ -102,8 +104,8 @@ fn start_each(
     outgoing
 }
 
-/// Starts the first of the given reads, as many as the Modbus session allows, and returns their
-/// request frames.
+/// Starts as many of the given reads as the Modbus session allows, from the first read on, and
+/// returns their request frames.
 ///
 /// `number` is the number of the first poll.
 pub fn start_on(slot: &mut Slot, number: u64, moment: u64, spans: &[ReadSpan]) -> Outgoing

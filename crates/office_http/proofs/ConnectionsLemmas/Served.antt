@@ -17,8 +17,8 @@ use Rattle.office_http.specs.declared.fault.HandleFault.TheVariants.{Read, Write
 use Rattle.office_http.specs.Connections.Connections.{AskedBy, ServesOne, ServesUpTo, history_with}
 use Rattle.office_http.specs.Connections.Named.{HandlesNamed, HasNoRoom, LetsAsk, MayAsk, TurnsAway}
 
--- If a connection has no command, then the history of the events that the program accepted is
--- unchanged.
+-- If the program executed no command on a connection, then the program's state is still the state
+-- after the events that it accepted earlier.
 pub unasked : {B : Type 0} (names : List (List ℕ)) (at : ℕ) (ledger : B → Ledger) (past : History) (office : Office B) → Stands ledger past office
     → ServesOne names at ledger past office
 unasked names at ledger past office stands = record {
@@ -73,7 +73,8 @@ does names ledger past at old new link read (Err Read) may h stands clean = same
 does names ledger past at old new link read (Err Short) may h stands clean = same names at ledger past old new h.0.unchanged stands
 does names ledger past at old new link read (Err TurnsUsed) may h stands clean = same names at ledger past old new h.unchanged stands
 
--- A call that tests the Host header serves at most one request.
+-- If a call tests the Host header and then acts as `handle`, the program's state follows from the
+-- earlier events and one more connection.
 pub handled : {B : Type 0} (names : List (List ℕ)) (ledger : B → Ledger) (at : ℕ) (old new : Office B) (link : Passage) (result : Result (Unit {0}) HandleFault)
     → ((read : List ℕ) → Consumes link.remaining link.later_remaining read → MayAsk names read)
     → Handles ledger at old new link result → After ledger old new (λ past. ServesOne names at ledger past new)
@@ -94,7 +95,8 @@ pub named_handled : {B : Type 0} (names : List (List ℕ)) (ledger : B → Ledge
 named_handled names ledger at old new link result h past stands clean = named_does names ledger past at old new link h.read result h.does stands clean
 
 -- If the program's state follows from at most `n` served connections, then after one more
--- connection it follows from at most `n` + 1. The time of the new connection is the clock's time.
+-- connection the state follows from at most `n` + 1. The time of the new connection is the clock's
+-- time.
 pub one_more : {B : Type 0} (names : List (List ℕ)) (n : ℕ) (begun mid now : Option (List ℕ)) (at : ℕ) (ledger : B → Ledger) (past : History) (old new : Office B)
     → ServesUpTo names n begun mid ledger past old → ReportsMoment mid now at
     → After ledger old new (λ h. ServesOne names at ledger h new) → (ledger (books_in new)).is_clean → ServesUpTo names (n + 1) begun now ledger past new

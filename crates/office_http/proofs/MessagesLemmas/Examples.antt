@@ -7,7 +7,7 @@ use Rattle.office_http.specs.Messages.Hosts.{is_known, may_ask}
 use Rattle.office_http.specs.Messages.Sites.{is_cross_site}
 
 -- Examples of accepted Host values (RFC 9110, section 7.2): the names and addresses of this
--- machine, in any case.
+-- machine, in upper or lower case.
 
 by_number : is_known [] (codes "127.0.0.1") ≡ true
 by_number = refl
@@ -15,7 +15,7 @@ by_number = refl
 with_a_port : is_known [] (codes "127.0.0.1:8080") ≡ true
 with_a_port = refl
 
--- A Host value with any port is accepted, because a port may be forwarded.
+-- An accepted Host value can contain any port, because a port may be forwarded.
 with_another_port : is_known [] (codes "127.0.0.1:8081") ≡ true
 with_another_port = refl
 
@@ -51,7 +51,8 @@ nothing = refl
 a_port_alone : is_known [] (codes ":8080") ≡ false
 a_port_alone = refl
 
--- A Host value among the given names is accepted.
+-- Examples of a Host value with given host names: a given name is accepted, another name is
+-- rejected.
 
 a_given_name : is_known (codes "Office.example" ∷ []) (codes "office.Example:443") ≡ true
 a_given_name = refl
@@ -84,8 +85,8 @@ with_an_empty_one = refl
 with_two : may_ask [] (head_with (codes "localhost" ∷ codes "localhost" ∷ [])) ≡ false
 with_two = refl
 
--- Examples of requests that a page of another site sent, by Sec-Fetch-Site (W3C, Fetch Metadata
--- Request Headers, section 2.3).
+-- Examples of how the header Sec-Fetch-Site shows that a page of another site sent a request (W3C,
+-- Fetch Metadata Request Headers, section 2.3).
 
 abbrev from_site : List (List ℕ) → Start
 from_site values = record {

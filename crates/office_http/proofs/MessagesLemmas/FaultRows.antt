@@ -14,8 +14,8 @@ more_rows-append (x ∷ xs) y = ap (λ t. codes "," ++ row_text x ++ t) (more_ro
 row_after : (old a b : List ℕ) → old ++ codes ",[" ++ a ++ codes "," ++ b ++ codes "]" ≡ old ++ (codes "," ++ (codes "[" ++ a ++ codes "," ++ b ++ codes "]"))
 row_after old a b = simp append_assoc refl
 
--- If the JSON of faulty row `i` is appended to the JSON of the first `i` faulty rows, the result is
--- the JSON of `i` + 1 faulty rows.
+-- The JSON of the first `i` + 1 faulty rows is the JSON of the first `i` rows, followed by the JSON
+-- of row `i`.
 pub one_more : (before now next : List ℕ) (rows : List FaultyRow) (i : ℕ) (d : FaultyRow) → i < length rows → now ≡ before ++ more_rows (take i rows)
     → next ≡ now ++ codes ",[" ++ decimal (get_or rows i d).row ++ codes "," ++ decimal (fault_number (get_or rows i d).fault) ++ codes "]" → next ≡ before ++ more_rows (take (i + 1) rows)
 one_more before now next rows i d lt so_far is =

@@ -1,5 +1,5 @@
--- Lemmas: the program reports at most 513 faulty rows of a point list (a CSV text of registers to
--- poll), each with a row number of at most 514.
+-- Lemmas: the program reports at most 513 faulty rows of a point list (CSV rows of registers to
+-- poll), with row numbers of at most 514.
 use Rattle.std.proofs.Common.{◌≡◌, ℕ, zero, suc, ◌+◌, ◌≤◌, Bool, true, false, List, [], ◌∷◌, length, Option, Some, None, refl, sym, subst, arith, length-append}
 use Rattle.std.specs.Prelude.{All, if◌then◌else◌}
 use Rattle.std.specs.Option.{option_to_list}

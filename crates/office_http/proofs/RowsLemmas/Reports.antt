@@ -1,4 +1,5 @@
--- Lemmas on the rows of a query that are written as lines of a report, one after another.
+-- Lemmas on the rows that a query returns and that are written as lines of a report, one after
+-- another.
 use Rattle.std.proofs.Common.{◌≡◌, ◌∙◌, ◌+◌, ◌<◌, ◌≤◌, ℕ, zero, suc, List, [], ◌∷◌, ◌++◌, length, refl, sym, ap, subst, arith, append_assoc}
 use Rattle.std.specs.Prelude.{flat_map, min}
 use Rattle.std.proofs.lemmas.Bool.Decides.{nat_tests}

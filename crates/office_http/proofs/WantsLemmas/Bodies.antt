@@ -1,4 +1,4 @@
--- Lemmas: the body of a request parses to only one command or one fault.
+-- Lemmas: a request's body always parses to the same command or fault, unless memory runs out.
 use Rattle.std.proofs.Common.{◌≡◌, ◌∙◌, ◌≢◌, ◌⊎◌, ℕ, List, Option, Some, Result, Ok, Err, inl, inr, refl, sym, ap, subst}
 use Rattle.serde_json.specs.Data.{Data}
 use Rattle.serde_json.specs.Read.{read}

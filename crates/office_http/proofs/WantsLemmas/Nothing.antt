@@ -77,7 +77,7 @@ gives_again table bytes at found posted asked whole tests asks =
     (subst (λ n. Gives found.route (name_asked n) asks.body (Ok asks.command)) name
     (subst (λ r. Gives r (name_asked (name_in table asks.start.target)) asks.body (Ok asks.command)) route asks.gives))
 
--- True if a request's body contains no valid command for another reason than running out of memory.
+-- True if the fault of a request's body is a fault other than `Memory` (out of memory).
 abbrev pub IsNoMemory : CommandFault → Type 0
 IsNoMemory why = let given : Result Command CommandFault = Err why in given ≢ Err Memory
 

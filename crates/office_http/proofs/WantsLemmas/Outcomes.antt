@@ -1,4 +1,4 @@
--- Lemmas on the query or command of a request.
+-- Lemmas on the result of parsing a complete request: a command, or the fault of its body.
 use Rattle.std.proofs.Common.{◌≡◌, ◌∙◌, ◌≢◌, ℕ, List, Option, Result, Ok, Err, inr, refl, sym, ap, subst}
 use Rattle.office_http.specs.Messages.Commands.Given.{Gives}
 use Rattle.office_http.specs.declared.messages.commands.fault.CommandFault.{CommandFault}
@@ -27,8 +27,8 @@ pub kept_same : (method target body other_method other_target other_body : List 
     → kept_request method target body ≡ kept_request other_method other_target other_body
 kept_same method target body other_method other_target other_body m t b = λ i. kept_request (m i) (t i) (b i)
 
--- True if received bytes contain a complete request for a command, whose body parses to the given
--- command or fault.
+-- True if the received bytes contain a complete request for a command, and its body parses to the
+-- given command or fault.
 pub record IsFoundOut (table : Table) (bytes : List ℕ) (at : Head) (found : Found) (posted : Posted) (given : Result Command CommandFault) : Type 0 where
   pub holds : IsWhole table bytes at
   pub tests : TestsHead table (start_at bytes at) (Ok (AskedCommand found posted))

@@ -11,46 +11,48 @@ use Rattle.office_http.specs.Serving.{with_asked}
 use Rattle.office_http.specs.Wants.Wanting.{AsksOffice}
 use Rattle.office_http.specs.Connections.Named.{MayAsk}
 
--- True if the bytes of a connection contain a request with this command, and its Host header is
--- accepted. Without a command, the bytes are arbitrary.
+-- States that if there is a command, then the bytes that were read contain a request for it, and
+-- their Host header is accepted. States nothing without a command.
 abbrev pub AskedBy : (names : List (List ℕ)) → (read : List ℕ) → Option Asked → Type 0
 AskedBy names read None = Unit {0}
 AskedBy names read (Some asked) = MayAsk names read × AsksOffice routes read asked
 
 -- A served HTTP connection: the time when the connection was accepted, the bytes that were read,
--- and the command that the program executed, if any.
+-- and the command, if any, that the program executed.
 pub record Connection (names : List (List ℕ)) : Type 0 where
   pub at : ℕ
   pub read : List ℕ
   pub asked : Option Asked
   pub asks : AskedBy names read asked
 
--- The history of accepted events after a list of connections. Each command is accepted, refused, or
--- answered from a stored response, by the rules for commands.
+-- The history of accepted events after the program served a list of connections. The rules for
+-- commands decide which of their commands add an event.
 abbrev pub history_with : {names : List (List ℕ)} → (past : History) → List (Connection names)
     → History
 history_with past [] = past
 history_with past (one ∷ earlier) = with_asked (history_with past earlier) one.at one.asked
 
--- True if the time of each connection is the clock's time when the connection was accepted. The
--- clock was read for nothing else.
+-- True if the clock was read exactly once for each connection, when the connection was accepted,
+-- and the connection has this time.
 abbrev pub AreTimed : {names : List (List ℕ)} → (begun now : Option (List ℕ))
     → List (Connection names) → Type 0
 AreTimed begun now [] = now ≡ begun
 AreTimed begun now (one ∷ earlier) =
     (between : Option (List ℕ)) × AreTimed begun between earlier × ReportsMoment between now one.at
 
--- True if the program's state follows from the events that it accepted earlier and then one HTTP
--- connection, which was accepted at the time `at`.
+-- True if the program's state is the state after the events of `past` and one HTTP connection that
+-- was accepted at the time `at`.
 pub record ServesOne {B : Type 0} (names : List (List ℕ)) (at : ℕ) (ledger : B → Ledger)
     (past : History) (office : Office B) : Type 0 where
   pub connection : Connection names
   pub moment : connection.at ≡ at
   pub stands : Stands ledger (with_asked past connection.at connection.asked) office
 
--- True if the program's state follows from its earlier events and then at most `most` HTTP
--- connections. Each has the clock's time at its acceptance. A connection has no command if the
--- store or memory failed, or if the program refuses all events.
+-- True if the program's state is the state after the events of `past` and at most `most` HTTP
+-- connections.
+--
+-- Each connection has the clock's time at its acceptance. If the store or memory failed, or the
+-- program refuses all events, then no command was executed on the connection.
 pub record ServesUpTo {B : Type 0} (names : List (List ℕ)) (most : ℕ)
     (begun now : Option (List ℕ)) (ledger : B → Ledger) (past : History)
     (office : Office B) : Type 0 where

@@ -1,5 +1,5 @@
--- The effect of one call of `handle_named`, which tests the Host header and then acts as `handle`
--- does.
+-- The effect of one call of `handle_named`, which tests the Host header of a request. If the host
+-- is accepted, the call serves the request as `handle` does.
 use Rattle.std.specs.Prelude.{◌≡◌, ◌⊎◌, ℕ, true, false, List, ◌++◌, None, Result}
 use Rattle.std.specs.Io.KnownBytes.{Consumes}
 use Rattle.mb_wire.specs.declared.link.LinkFailed.{LinkFailed}
@@ -19,8 +19,8 @@ pub record IsFrontOf (front bytes : List ℕ) : Type 0 where
   pub rest : List ℕ
   pub is : bytes ≡ front ++ rest
 
--- True if the Host header was tested in bytes that are a prefix or an extension of the bytes
--- `read`. The tested bytes have a head with an accepted host, or no complete head yet.
+-- True if some bytes pass the test of the Host header, and these bytes are a prefix or an extension
+-- of `read`. Bytes pass if their head has an accepted host, or if they have no complete head.
 pub record MayAsk (names : List (List ℕ)) (read : List ℕ) : Type 0 where
   pub tested : List ℕ
   pub same : IsFrontOf tested read ⊎ IsFrontOf read tested
@@ -36,8 +36,8 @@ pub record RepliesMisdirected (link : Passage) (result : Result (Unit {0}) Handl
     pub ends : result ≡ ended sent None
     pub gives : Gives sent link.given link.later_given (reply_bytes (fault Misdirected))
 
--- True if the call read only a head whose Host header is rejected. The call wrote the response 421
--- and left the program's state unchanged.
+-- True if `handle_named` read until a head with a rejected Host header was complete, wrote the
+-- response 421, and left the program's state unchanged.
 pub record TurnsAway {B : Type 0} (names : List (List ℕ)) (old new : Office B) (link : Passage)
     (read : List ℕ) (result : Result (Unit {0}) HandleFault) : Type 0 where
   pub head_state : HeadState
@@ -47,23 +47,23 @@ pub record TurnsAway {B : Type 0} (names : List (List ℕ)) (old new : Office B)
   pub replies : RepliesMisdirected link result
   pub unchanged : new ≡ old
 
--- True if the call read a head whose Host header is accepted, or no complete head. The call had the
--- effect of `handle`, which serves one request.
+-- True if `handle_named` read an accepted Host header or no complete head, and had the effect of
+-- `handle`, which serves one request.
 pub record LetsAsk {B : Type 0} (names : List (List ℕ)) (ledger : B → Ledger) (at : ℕ)
     (old new : Office B) (link : Passage) (read : List ℕ) (result : Result (Unit {0}) HandleFault)
     : Type 0 where
   pub may : MayAsk names read
   pub does : Does ledger at old new link read result
 
--- True if the call had no memory for a request. The call did not test the host and executed
--- nothing.
+-- True if memory for the request ran out, and `handle_named` executed nothing. The function did not
+-- test the host, and wrote at most the response that memory ran out.
 pub record HasNoRoom {B : Type 0} (old new : Office B) (link : Passage) (read : List ℕ)
     (result : Result (Unit {0}) HandleFault) : Type 0 where
   pub does : DoesBare link read result
   pub unchanged : new ≡ old
 
--- True if the call of `handle_named` read the bytes `read` from the client's connection. The call
--- rejected the host, served the request, or had no memory for the request.
+-- True if the call of `handle_named` read bytes from the client's connection, and rejected the
+-- host, served the request, or had no memory for it.
 pub record HandlesNamed {B : Type 0} (names : List (List ℕ)) (ledger : B → Ledger) (at : ℕ)
     (old new : Office B) (link : Passage) (result : Result (Unit {0}) HandleFault) : Type 0 where
   pub read : List ℕ

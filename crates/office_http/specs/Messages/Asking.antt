@@ -27,7 +27,7 @@ abbrev pub TestsPost : PostHeaders → Result Posted Status → Type 0
 TestsPost headers (Ok posted) = (post_fault headers ≡ None) × Says headers posted
 TestsPost headers (Err status) = post_fault headers ≡ Some status
 
--- True if the head asks for this query or command, by the route of the request target.
+-- True if the route and the headers of the request head are those of this query or command.
 abbrev pub AsksFor : Table → Start → Ask → Type 0
 AsksFor table start (Question found) = LeadsTo table start found × (is_question found.route ≡ true)
 AsksFor table start (Command found posted) =

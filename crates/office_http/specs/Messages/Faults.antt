@@ -4,7 +4,7 @@ use Rattle.std.specs.Prelude.{ℕ, List, [], ◌∷◌, ◌++◌, codes, decimal
 use Rattle.point_list.specs.declared.fault.FaultyRow.{FaultyRow}
 use Rattle.point_list.specs.Faults.{fault_number}
 
--- The JSON of a faulty row: the row's number in the point list, and the number of its fault.
+-- The JSON of a faulty row: the row's number in the point list, and the numeric code of its fault.
 abbrev pub row_text : FaultyRow → List ℕ
 row_text faulty =
     codes "[" ++ decimal faulty.row ++ codes "," ++ decimal (fault_number faulty.fault) ++ codes "]"

@@ -30,7 +30,8 @@ start_at bytes at = record {
   headers = map (header_bytes bytes) (take at.count at.headers);
 }
 
--- True if the request's method is that of the route. Upper and lower case differ.
+-- True if the request's method is that of the route. The comparison distinguishes upper and lower
+-- case.
 abbrev pub has_method : Route → List ℕ → Bool
 has_method route method = bytes_eq method (method_of route)
 
@@ -45,8 +46,8 @@ abbrev pub asks : Option Route → Bool
 asks None = false
 asks (Some route) = is_question route
 
--- The tests of a request's head in order, each with the status of its failure: the route, the
--- method, and for a command the headers of a POST.
+-- The tests of a request's head in order: the route, the method, and for a command the headers of a
+-- POST. Each pair is a flag that the test failed, and the status for that failure.
 abbrev pub head_tests : Table → Start → List (Bool × Status)
 head_tests table start =
     (is_none (route_in table start.target), NotFound)

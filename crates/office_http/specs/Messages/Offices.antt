@@ -8,9 +8,9 @@ use Rattle.office_events.specs.declared.questions.Installation.{Installation}
 use Rattle.office_events.specs.declared.questions.PollRow.{PollRow}
 use Rattle.office_events.specs.declared.refusals.Refusal.{Refusal}
 
--- The program's answers at one time, to each query and to a command. The answer to a command is the
--- command's kind, even if it is a duplicate request. A name is None if the request has no valid
--- name.
+-- The program's answers at one time, to each query and to each command. The answer to an accepted
+-- command is the command's kind, also for a duplicate request. A name is None if the request has no
+-- valid name.
 pub record Office : Type 0 where
   pub meter : Option (List ℕ) → Result Installation Refusal
   pub poll : (number : ℕ) → Result PollRow Refusal

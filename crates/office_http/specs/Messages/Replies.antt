@@ -41,7 +41,8 @@ reply_bytes (Lines lines) = text_head ++ lines
 abbrev pub fault : Status → Reply
 fault status = Json status (fault_text status)
 
--- The JSON response that reports why the program refused the request, by the number of the reason.
+-- The JSON response that reports the numeric code of the reason why the program refused the
+-- request.
 abbrev pub refused : Refusal → Reply
 refused why = Json (status_of why) (refused_text (refusal_number why))
 

@@ -26,8 +26,8 @@ meter_text row =
     ++ codes ",\"total\":\"" ++ decimal row.total
     ++ codes "\"}"
 
--- The end of a poll: its time, the number of its outcome, and the outcome's code. All fields are 0
--- while the poll waits for its response.
+-- The end of a poll: its time, the numeric code of its outcome, and a second code with details,
+-- such as the Modbus exception code. All fields are 0 while the poll waits for its response.
 pub record Ending : Type 0 where
   pub moment : ℕ
   pub outcome : ℕ
@@ -44,7 +44,7 @@ ending_of (Some ended) =
       code = outcome_code ended.outcome;
     }
 
--- The JSON of a poll. The end of the poll has the given values.
+-- The JSON of a poll, with the values in `ending` for the time and the outcome of its end.
 abbrev pub poll_text_with : Ending → PollRow → List ℕ
 poll_text_with ending row =
     codes "{\"code\":" ++ decimal ending.code

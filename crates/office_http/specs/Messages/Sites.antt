@@ -9,9 +9,9 @@ use Rattle.office_http.specs.declared.messages.head.head.Head.{Head}
 use Rattle.office_http.specs.declared.messages.head.head.HeadState.{HeadState}
 use Rattle.office_http.specs.declared.messages.head.head.HeadState.TheVariants.{Open, TooLarge, NoHead, Whole}
 
--- True if the values of Sec-Fetch-Site say that a page of another site sent the request. True for a
--- repeated header, because no browser sends two. False for a missing header: the request came from
--- an old browser or from another program.
+-- True if the values of Sec-Fetch-Site say that a page of another site sent the request. Also true
+-- for a repeated header, because no browser sends two. False for a missing header: the request came
+-- from an old browser or from another program.
 abbrev pub says_cross_site : Times → Bool
 says_cross_site Missing = false
 says_cross_site (Alone value) = bytes_eq value (codes "cross-site")

@@ -25,8 +25,8 @@ pub record IsCommand (table : Table) (start : Start) (route : Route) : Type 0 wh
   pub leads : route_in table start.target ≡ Some route
   pub changes : is_question route ≡ false
 
--- True if the body of a command's request parses to `given`, a command or a fault. `Memory` is
--- excluded, because running out of memory is no property of the body.
+-- States that if the request is a command, its body parses to `given`, a command or a fault other
+-- than `Memory`. Running out of memory is no property of the body.
 abbrev pub BodyGives : Table → Start → (body : List ℕ) → Result Command CommandFault → Type 0
 BodyGives table start body given =
     (route : Route) → IsCommand table start route

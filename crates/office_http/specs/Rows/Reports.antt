@@ -31,8 +31,9 @@ abbrev pub rows_begun : {T : Type 0} → (line : T → List ℕ) → List T → 
 rows_begun line [] = []
 rows_begun line (row ∷ rows) = text_head ++ flat_map line (row ∷ rows)
 
--- True if the report ends with the number of its rows. If the query is refused before the first
--- row, the refusal becomes the complete response. A refusal after a row cuts the response off.
+-- States how a report ends: with the number of its rows if the query succeeds. If the query is
+-- refused before the first row, the refusal becomes the complete response. A refusal after a row
+-- cuts the response off.
 abbrev pub EndsReport : Report → Result (Unit {0}) Refusal → Outgoing → Option Refusal → Type 0
 EndsReport report (Ok x) out cut =
     Puts report.out out (head_before report.count ++ end_line report.count) × (cut ≡ None)

@@ -37,8 +37,8 @@ pub record AsksOffice (table : Table) (bytes : List ℕ) (asked : Asked) : Type 
 abbrev pub AsksNothing : Table → (bytes : List ℕ) → Type 0
 AsksNothing table bytes = (asked : Asked) → AsksOffice table bytes asked → ⊥
 
--- True if `text` is the response to the bytes for any state of the program, and the bytes have no
--- request for a command.
+-- True if the bytes have no request for a command, and `text` is their response whatever the
+-- program answers to queries and commands.
 pub record IsReportedOff (table : Table) (bytes text : List ℕ) : Type 0 where
   pub nothing : AsksNothing table bytes
   pub reply : (office : Office) → IsReply office table bytes text
@@ -58,8 +58,8 @@ pub record IsAskedFor (table : Table) (bytes : List ℕ) (asked : Asked) : Type 
   pub reply : (office : Office)
       → IsReply office table bytes (reply_bytes (row_reply done_text (office.asked asked)))
 
--- True if the body of the request contains no valid command, for the reason `why`. If the reason is
--- `Memory`, then memory ran out, and the request is arbitrary.
+-- True if the body of the request contains no valid command, for the reason `why`. Always true if
+-- the reason is `Memory` (out of memory), which says nothing about the request.
 abbrev pub IsNoCommand : Table → (bytes : List ℕ) → CommandFault → Type 0
 IsNoCommand table bytes why = (why ≡ Memory) ⊎ IsReportedOff table bytes (reply_bytes (fault_said why))
 
@@ -71,8 +71,8 @@ Wants table bytes (want.Answer found) = IsQuestion table bytes found
 Wants table bytes (want.Refused why) = IsNoCommand table bytes why
 Wants table bytes (want.Command asked) = IsAskedFor table bytes asked
 
--- True if any faulty rows of a point list (CSV) in the result are at most 513, each with a row
--- number of at most 514.
+-- States that if the result reports faulty rows of a point list (CSV), there are at most 513, with
+-- row numbers of at most 514. States nothing for other results.
 abbrev pub HasFewFaults : Want → Type 0
 HasFewFaults (want.Rejected status) = Unit {0}
 HasFewFaults (want.Answer found) = Unit {0}

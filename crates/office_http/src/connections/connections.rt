@@ -17,7 +17,7 @@ use std::net::{OpenListener, OpenStream};
 /// The most seconds from accepting a connection to the end of its response.
 pub const MOST_SECONDS: u64 = 10;
 
-// Serves the only request of an HTTP connection that was accepted at the time `moment`. A failure
+// Serves the one request of an HTTP connection that was accepted at the time `moment`. A failure
 // ends only this connection.
 fn serve_connection<R: std::rt::Clock, S: Read + Write + OpenStream + Drop, B: Books>(
     rt: &R,
@@ -51,10 +51,10 @@ fn is_of_connection(kind: ErrorKind) -> bool {
 /// Serves HTTP/1.1 requests on `connections` connections, one after the other.
 ///
 /// Each connection has one request. The request's timestamp is the clock's time when the connection
-/// was accepted. [`handle_named`] tests the host. A connection that fails also counts, and ends
-/// alone. A connection without a response 10 seconds after its acceptance is dropped, by the
-/// monotonic clock. Each socket call waits for at most a second. An error of the listening socket
-/// ends the call.
+/// was accepted. [`handle_named`] tests the host. If a connection fails, it counts as served, and
+/// the next connection follows. A connection without a response 10 seconds after its acceptance, by
+/// the monotonic clock, is dropped. Each socket call waits for at most a second. An error of the
+/// listening socket ends the call.
 pub fn serve_connections<R: std::rt::Clock, L: OpenListener, B: Books, C: Clock>(
     rt: &R,
     alloc: Global,
@@ -86,7 +86,7 @@ where
     Ok(())
 }
 
-/// Serves requests as [`serve_connections`] does, under the host names of this machine only.
+/// Serves requests as [`serve_connections`] does, and accepts only the host names of this machine.
 ///
 /// The call uses the clock for timestamps only. Connections have no deadline, but each socket call
 /// waits for at most a second.

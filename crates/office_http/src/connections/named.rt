@@ -71,9 +71,9 @@ fn serve_named<L: Link, B: Books>(
 /// Serves one request as [`handle`](crate::exchange::handle) does, if its `Host` header is
 /// accepted.
 ///
-/// The header is accepted if it names this machine or one of `names`, or is missing. Any other head
-/// gets status 421 as soon as the head has arrived, before all other tests. If memory runs out for
-/// a request, the response reports the lack of memory, and the host is not tested.
+/// The header is accepted if it names this machine or one of `names`, or is missing. Any other
+/// request gets status 421 as soon as its head has arrived, before all other tests. If memory runs
+/// out for a request, the response reports the lack of memory, and the host is not tested.
 pub fn handle_named<L: Link, B: Books>(
     alloc: Global,
     names: &[&str],

@@ -14,9 +14,10 @@ use matchit::Router;
 /// An HTTP request whose head passed all tests: a query (GET) or a command (POST).
 #[derive(Clone, Copy)]
 pub enum Ask<'b> {
-    /// A query (GET), with its route. The program ignores its body.
+    /// A query (GET), with its route. The program ignores the body of a query.
     Question(Found<'b>),
-    /// A command (POST), with its route and its parsed headers. Its body follows the head.
+    /// A command (POST), with its route and its parsed headers. The command's body follows the
+    /// head.
     Command(Found<'b>, Posted),
 }
 

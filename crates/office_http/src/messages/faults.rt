@@ -8,7 +8,8 @@ ghost use Rattle.office_http.specs.Messages.Faults.{faults_text, more_rows};
 use crate::messages::sending::Text;
 use point_list::FaultyRow;
 
-// Appends to a JSON text: the text `key`, the number of a row, and the number of the row's fault.
+// Appends to a JSON text: the text `key`, the number of a faulty row, and the numeric code of the
+// row's fault.
 fn push_row(text: &mut Text, key: &[u8], faulty: FaultyRow)
     requires room { length text.old + length key.now + 60 ≤ 8192 }
     requires low { faulty.row ≤ 514 }
@@ -21,7 +22,8 @@ fn push_row(text: &mut Text, key: &[u8], faulty: FaultyRow)
     text.push(b"]");
 }
 
-// Appends the numbers of rows and of their faults to a JSON text, each with a comma before it.
+// Appends faulty rows to a JSON text, each with a comma before it: the row's number and the numeric
+// code of its fault.
 fn push_rows(text: &mut Text, rows: &[FaultyRow])
     requires room { length text.old + 12 * length rows.now ≤ 8000 }
     requires low { All (λ faulty. faulty.row ≤ 514) rows.now }
@@ -33,8 +35,8 @@ fn push_rows(text: &mut Text, rows: &[FaultyRow])
     }
 }
 
-/// Formats the body of the response to a point list with faulty rows: each row number with the
-/// least number among the row's faults.
+/// Formats the body of the response to a point list with faulty rows: the number of each faulty row
+/// with the least numeric code among the row's faults.
 pub fn faults_body(rows: &[FaultyRow]) -> Text
     requires { AreFew rows.now }
     ensures { result ≡ faults_text rows.now }

@@ -45,7 +45,8 @@ fn is_port(text: &[u8]) -> bool
     }
 }
 
-// Returns whether a `Host` value is the host `name`, in any case, with or without a port.
+// Returns whether a `Host` value is the host `name`, in upper or lower case, with or without a
+// port.
 fn is_host(name: &str, value: &[u8]) -> bool
     ensures { result ≡ hosts.is_host name.now value.now }
 {
@@ -71,8 +72,8 @@ fn is_given(given: &[&str], value: &[u8]) -> bool
     is_one_of(given, value)
 }
 
-// Returns whether the program serves a request, by the `Host` header: it is missing, or occurs once
-// with a name of this machine or one of the names `given`.
+// Returns whether the `Host` header lets the program serve a request: the header is missing, or
+// occurs once with a name of this machine or one of the names `given`.
 fn has_known_host(given: &[&str], bytes: &[u8], head: &Head) -> bool
     requires placed { IsPlaced bytes.now head.now }
     ensures { result ≡ hosts.may_ask (texts given.now) (start_at bytes.now head.now) }
@@ -87,9 +88,9 @@ fn has_known_host(given: &[&str], bytes: &[u8], head: &Head) -> bool
 /// Returns whether the program serves a request, by its `Host` header (RFC 9110, section 7.2).
 ///
 /// The header may be missing. Otherwise the request has it once, with the value `127.0.0.1`,
-/// `localhost`, `[::1]` or a name in `given`. The value may have any case and any port. This test
-/// rejects requests from web pages of a foreign host name that resolves to this machine (DNS
-/// rebinding). Bytes without a complete head pass this test.
+/// `localhost`, `[::1]` or a name in `given`. The value may be in upper or lower case, and may have
+/// any port. This test rejects requests from web pages of a foreign host name that resolves to this
+/// machine (DNS rebinding). Bytes without a complete head pass this test.
 pub fn may_ask(given: &[&str], bytes: &[u8], head_state: &HeadState) -> bool
     requires { Looks bytes.now head_state.now }
     ensures { result ≡ hosts.may_ask_in (texts given.now) bytes.now head_state.now }

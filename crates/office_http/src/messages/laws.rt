@@ -43,8 +43,8 @@ pub fn questions_are_replied_to(
         (reply_bytes (question_reply office found.now.route (name_of found.now))) }
 {}
 
-/// Theorem: the response to a command has the kind of the executed command, or the reason why the
-/// program refused the command, or the fault of the request's body.
+/// Theorem: the response to a command is the kind of the executed command, the reason why the
+/// program refused it, or the fault of the body.
 pub fn commands_are_replied_to(
     router: &Router<Route>,
     bytes: &[u8],

@@ -43,8 +43,8 @@ pub fn meter_body(row: &Installation) -> Text
     text
 }
 
-// The end of a poll: its time, outcome and code. All fields are 0 while the poll waits for its
-// response.
+// The end of a poll: its time, the numeric code of its outcome, and a second code with details,
+// such as the Modbus exception code. All fields are 0 while the poll waits for its response.
 #[derive(Clone, Copy)]
 struct Ending {
     moment: u64,
@@ -71,7 +71,7 @@ fn ending_of(ended: &Option<EndedPoll>) -> Ending
     }
 }
 
-/// Formats the JSON of a poll. The numbers of its outcome and of the outcome's code are 0 while the
+/// Formats the JSON of a poll. The time and the two numeric codes of its outcome are 0 while the
 /// poll waits for its response.
 pub fn poll_body(row: &PollRow) -> Text
     ensures { result ≡ poll_text row.now }

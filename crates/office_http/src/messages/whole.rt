@@ -120,7 +120,8 @@ pub fn head_gives_body_size(
     ensures { body_size router.now (start_at bytes.now head.now) ≡ posted.now.size }
 {}
 
-/// Theorem: two results of parsing a request head from the same bytes have the same spans.
+/// Theorem: two results of parsing a request head from the same bytes have the same method, target,
+/// headers and size.
 pub fn parses_agree(bytes: &[u8], one: &Head, other: &Head)
     requires one { IsHeadAt bytes.now one.now }
     requires other { IsHeadAt bytes.now other.now }
@@ -128,7 +129,8 @@ pub fn parses_agree(bytes: &[u8], one: &Head, other: &Head)
     ensures len { one.now.len ≡ other.now.len }
 {}
 
-/// Theorem: bytes without a complete request head or body contain no complete request.
+/// Theorem: bytes that lack a part of the request head or of the request body contain no complete
+/// request.
 pub fn incomplete_is_no_request(router: &Router<Route>, bytes: &[u8], head: &Head)
     requires { IsUnfinished router.now bytes.now }
     ensures { IsWhole router.now bytes.now head.now → ⊥ }

@@ -1,10 +1,11 @@
-//! Theorems: the body of a request parses to one command or one fault.
+//! The theorem that a request's body always parses to the same command or fault, unless memory runs
+//! out.
 ghost use Rattle.office_http.specs.Wants.Bodies.{BodiesGiveOne};
 
 use point_list::texts_spell_one_list;
 use read_plan::lists_are_planned_once;
 
-/// Theorem: a body always parses to the same command or fault, unless memory runs out.
+/// Theorem: a request's body always parses to the same command or fault, unless memory runs out.
 pub fn bodies_give_one_command()
     ensures { BodiesGiveOne }
 {

@@ -1,4 +1,4 @@
--- Properties of a change of the polling round in one slot (index).
+-- Properties of a change of the polling round in one slot (an index in the list of rounds).
 use Rattle.std.proofs.Common.{◌≡◌, ℕ, ◌<◌, ◌≤◌, zero, suc, List, [], ◌∷◌, length, set, get_or, Some, None, refl, ap, arith}
 use Rattle.std.specs.Prelude.{slice_get}
 use Rattle.office_program.specs.declared.device_rounds.round.Round.{Round}
@@ -12,7 +12,8 @@ set_at_place (round ∷ rounds) zero change d h = refl
 set_at_place (round ∷ rounds) (suc place) change d h =
     let less : place < length rounds = omega (arith, h) in ap (λ xs. round ∷ xs) (set_at_place rounds place change d less)
 
--- If a slot is past the last slot, then a change of the slot leaves the polling rounds unchanged.
+-- If no slot `place` exists, then a change of the round in this slot leaves the list of polling
+-- rounds unchanged.
 pub at_no_place : (rounds : List Round) (place : ℕ) (change : Round → Round) → length rounds ≤ place → at_place place change rounds ≡ rounds
 at_no_place [] place change h = refl
 at_no_place (round ∷ rounds) zero change h = absurd (omega (arith, h))

@@ -45,8 +45,8 @@ next_shown sees old new next place at e answer notes now frames out is notes_are
     ∙ ap (λ p. shown p at e answer now out) (sym (ap place_of is)))
     h
 
--- After a call of `turn` feeds its next event, the event engine, the polling rounds and the
--- observer are in the state after this event. The observer is shown each event.
+-- After a call of `turn` fed its next event to the event engine, the engine and the polling rounds
+-- are in the state after it. The observer was shown the event.
 pub feeds_next : {B V : Type 0} (ledger : B → Ledger) (sees : V → Shown → V → Type 0) (at : ℕ) (place : Option ℕ) (e : Event)
     (answer : Result Answer Refusal) (old new : Scene B V) (mid : List Round) (notes : List Note) (frames : List ℕ)
     → ((past : History) → Stands ledger past old.office → (ledger (books_in new.office)).is_clean
@@ -73,8 +73,8 @@ feeds_next ledger sees at place e answer old new mid notes frames feeds mid_is n
       },
     )
 
--- The loop invariant of the function `turn`: the call has fed at least `steps` events, and the
--- state follows from these events.
+-- The loop invariant of the function `turn`: the call has fed at least `steps` events to the event
+-- engine, and the present state follows from these events.
 pub record GoesFar {B V : Type 0} (ledger : B → Ledger) (sees : V → Shown → V → Type 0) (at steps : ℕ) (past : History) (begun : Start V)
     (now : Scene B V) : Type 0 where
   pub fed : List Answered
@@ -121,8 +121,8 @@ begins ledger sees at past first old stands = record {
   shown = refl;
 }
 
--- If a call of `turn` (which processes events of devices) has no device event, then it begins with
--- the events that polling rounds request.
+-- If a call of `turn` (which processes events of devices) has no device event for the event engine,
+-- it feeds only events of polling rounds.
 pub turns_on : {B V : Type 0} (ledger : B → Ledger) (sees : V → Shown → V → Type 0) (at : ℕ) (past : History) (old new : Scene B V)
     → OfficeGoesOn ledger sees at old new → Stands ledger past old.office → (ledger (books_in new.office)).is_clean
     → TakesTurn ledger sees past (start old.failures (table None old.rounds) old.observer) at new
@@ -130,8 +130,8 @@ turns_on ledger sees at past old new goes stands clean =
     let so = goes past (start old.failures (table None old.rounds) old.observer) [] (begins ledger sees at past None old stands) clean in
     record { fed = so.0; going = so.1; settled = so.2 }
 
--- If a call of `turn` has a device event to feed first, then it feeds this event and then the
--- requested events.
+-- If a call of `turn` has a device event for the event engine, it first feeds this event to the
+-- engine. Then it feeds the events that polling rounds generate.
 pub turns_first : {B V : Type 0} (ledger : B → Ledger) (sees : V → Shown → V → Type 0) (at : ℕ) (past : History) (one : Wished) (old mid new : Scene B V)
     → FeedsNext ledger sees at one old mid → OfficeGoesOn ledger sees at mid new
     → ((ledger (books_in new.office)).is_clean → (ledger (books_in mid.office)).is_clean) → Stands ledger past old.office

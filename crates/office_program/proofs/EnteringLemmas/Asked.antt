@@ -1,5 +1,5 @@
 -- Properties of the effect of one input line on an office (the event engine). The line's request is
--- fed and answered, or the reason for making no request is printed.
+-- fed to the office and the answer is printed, or the reason for making no request is printed.
 use Rattle.std.proofs.Common.{ℤ, pos, sym, ◌≡◌, inl, inr, ℕ, ◌||◌, max, Bool, true, List, Option, Some, None, Result, Ok, Err, refl, ap, subst, ◌∙◌}
 use Rattle.std.specs.Prelude.{IfOk, is_err}
 use Rattle.std.specs.declared.io.Error.{Error}
@@ -41,8 +41,8 @@ use Rattle.office_program.specs.declared.entering.files.Shown.{Shown}
 use Rattle.office_program.specs.declared.entering.read_line.ReadRequest.{ReadRequest}
 use Rattle.office_program.specs.Entering.Lines.{IsEntry, ReadsEntry, Reporting}
 
--- The printed text of the event engine's answer equals the text that the contract defines for the
--- answer.
+-- The text that the program prints for the event engine's answer equals the text that the contract
+-- defines for this answer.
 reported_is : {B : Type 0} (office : Office B) (past : History) (at : ℕ) (e : Event) (reply : Result Answer Refusal) → IsReported past at e reply office
     → reported_text office reply ≡ reply_text past at e reply
 reported_is office past at e (Ok given) reported =
@@ -53,15 +53,15 @@ reported_is office past at e (Err why) reported = refl
 abbrev pub one : (at : ℕ) → Event → Result Answer Refusal → Answered
 one at e reply = record { at = at; event = e; result = reply }
 
--- After an input line, the input's progress has the line's timestamp. It records a refusal if this
--- line or an earlier one was refused.
+-- The progress after an input line has the timestamp of the line, and says whether this line or an
+-- earlier line was refused.
 pub next_is : (progress next : Progress) (at : ℕ) (e : Event) (reply : Result Answer Refusal) (failed : Bool)
     → next ≡ record { latest = at; refused = progress.refused || failed } → failed ≡ is_err reply → next ≡ progress_after progress (Asked (one at e reply))
 next_is progress next at e reply failed is same =
     is ∙ ap (λ (b : Bool). let p : Progress = record { latest = at; refused = progress.refused || b } in p) same
 
--- Suppose that a request was fed to the event engine, and its answer was printed, completely or in
--- part. Then the contract `IsAsked` for feeding a request holds.
+-- Suppose that a request was fed to the event engine, and the engine's answer was printed,
+-- completely or in part. Then `IsAsked`, the contract for feeding a request, holds.
 pub asked : {B : Type 0} (ledger : B → Ledger) (past : History) (progress : Progress) (before after : Failures) (had holds : Option (List ℕ)) (office : Office B)
     (at : ℕ) (e : Event) (reply : Result Answer Refusal) (result : Result Progress Error) (text : List ℕ) → Stands ledger (with_answer past at e reply) office
     → IsAnswer past at e before after reply → IsReported past at e reply office → text ≡ reported_text office reply → GotText result text had holds
@@ -137,7 +137,8 @@ undecided ledger past progress begun now office at request reason result timed s
   };
 }
 
--- Lemmas on the effect of an input line, by its parsed form.
+-- Lemmas: for each parsed form of an input line, the effect of the line satisfies `HasCome`, the
+-- contract for processing one line.
 
 pub asked_come : {B : Type 0} (ledger : B → Ledger) (reports : Reporting) (request : Request) (past : History) (progress : Progress) (begun now : RoundState)
     (office : Office B) (result : Result Progress Error) → HasAsked ledger request past progress begun now office result
@@ -243,7 +244,8 @@ line_cut ledger reports caller line past progress begun now old new e error is d
   record { takes = done.takes.takes; text = done.takes.text; next = tt },
 )
 
--- If an input line is bad or memory ran out, then the line makes no request.
+-- If an input line is bad or memory ran out, then the line makes no request, as `EntersLine` (the
+-- contract for one line) requires.
 pub line_faulty : {B : Type 0} (ledger : B → Ledger) (reports : Reporting) (caller : Option (List ℕ)) (line : Line) (past : History) (progress : Progress)
     (begun now : RoundState) (old new : Office B) (fault : LineFault) (status : ExitStatus) → IsUntouched begun now old new
     → ReadsEntry reports caller line.text (Err fault) → ReportsFault fault line.number status begun.printed now.printed

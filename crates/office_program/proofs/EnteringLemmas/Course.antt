@@ -1,4 +1,5 @@
--- Properties of the progress of an input after one more line, and at the end of the input.
+-- Properties of the state of a command that processes the lines of an input: after one more line,
+-- and at the end of the input.
 use Rattle.std.proofs.Common.{◌≡◌, inl, inr, ℕ, List, [], ◌∷◌, ◌++◌, Option, Result, Ok, Err, refl, sym, ap, subst, ◌∙◌, append-nil}
 use Rattle.std.specs.Io.KnownBytes.{Appends}
 use Rattle.std.proofs.KnownBytes.{Appends-nil, Appends-trans}
@@ -19,8 +20,8 @@ use Rattle.office_program.specs.Entering.Course.{AreAnswered, AreTaken, AreTimed
 use Rattle.office_program.specs.Entering.Entered.{EntersLines, IsStopped, status_of}
 use Rattle.office_program.specs.Entering.Lines.{Reporting}
 
--- The state of entering an input between two lines: some lines were processed, and the lines `rest`
--- remain.
+-- The state of a command between two lines of its input: some lines were processed, and the lines
+-- `rest` remain.
 pub record Underway {B : Type 0} (ledger : B → Ledger) (reports : Reporting) (caller : Option (List ℕ)) (lines rest : List Line) (past : History) (first : ℕ)
     (begun now : RoundState) (progress : Progress) (office : Office B) : Type 0 where
   pub taken : List Taken
@@ -42,8 +43,8 @@ begins ledger reports caller lines rest past first begun progress office stands 
   come = come;
 }
 
--- If a list of lines was processed and then one more line, then the list with this line was
--- processed.
+-- If a list of input lines was processed and then one more line, then the contract `AreTaken` holds
+-- for the list with this line.
 adds : {B : Type 0} (ledger : B → Ledger) (reports : Reporting) (caller : Option (List ℕ)) (past : History) (first : ℕ) (begun was now : RoundState)
     (old new : Office B) (taken : List Taken) (line : Line) (came : Came) → AreTaken ledger reports caller past first begun was old taken → Comes reports caller (history_with past taken) line.text came
     → Takes ledger (history_with past taken) (progress_of first taken).latest was now new came
@@ -89,8 +90,8 @@ untouched {B = B} ledger reports caller past first begun was now old new taken a
       timed = subst R (sym stays.moments) are.timed;
     }
 
--- If one text was printed completely and a second text in part, then the two texts together were
--- printed in part.
+-- If a first text was printed completely and then a second text in part, then the two texts
+-- together were printed in part.
 then_part : (a b c : Option (List ℕ)) (x y : List ℕ) → Appends a b x → GotPart y b c → GotPart (x ++ y) a c
 then_part a b c x y whole part =
     let r : Result (Unit {0}) (Unit {0}) = Err tt in got_both r a b c x y (x ++ y) whole part refl

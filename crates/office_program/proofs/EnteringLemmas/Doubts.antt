@@ -1,5 +1,5 @@
--- Proof that the definition of a doubted entry by hand (one that needs a confirmation) agrees with
--- its computation.
+-- Proof that the program computes as defined whether a manual entry is doubted (needs a
+-- confirmation).
 use Rattle.std.proofs.Common.{◌≡◌, inl, inr, ℕ, ◌-◌, ◌*◌, nat_le, Bool, true, false, List, Option, Some, None, Result, Ok, Err, refl, sym, ap, subst, ◌∙◌, arith}
 use Rattle.std.specs.Prelude.{if◌then◌else◌, is_some}
 use Rattle.std.specs.Option.{option_and_then}
@@ -24,16 +24,17 @@ use Rattle.office_core.specs.declared.office.Office.{Office}
 use Rattle.office_program.specs.Entering.Doubts.{IsDoubtReported, doubt_of, doubted_at, doubted_in, repeat_in}
 use Rattle.office_program.specs.Entering.Marks.{is_marked}
 
--- The energy from count `raw` to count `up_to - 1` equals the energy of `up_to - raw - 1` counts.
+-- The energy between the counts `raw` and `up_to - 1` equals the energy of `up_to - raw - 1`
+-- counts.
 pub less_one : (up_to raw unit : ℕ) → (up_to - 1) * unit - raw * unit ≡ (up_to - raw - 1) * unit
 less_one up_to raw unit =
     let order : (up_to - 1) - raw ≡ up_to - raw - 1 = omega arith in
     sym (ap (λ (n : ℕ). n * unit) (sym order) ∙ mul_comm ((up_to - 1) - raw) unit ∙ mul-sub unit (up_to - 1) raw
     ∙ ap (λ (n : ℕ). n - unit * raw) (mul_comm unit (up_to - 1)) ∙ ap (λ (n : ℕ). (up_to - 1) * unit - n) (mul_comm unit raw))
 
--- The program compares the energy of a manual entry with the greatest load and the time. This
--- equals the rule `can_count`: how far a load of the meter's greatest power can advance its
--- counter.
+-- Two conditions are equivalent. The program's condition compares the energy of a manual entry with
+-- the greatest power times the elapsed time. The rule `can_count` says how far a load of the
+-- meter's greatest power can advance its counter.
 pub within_is : (energy seconds load ceiling up_to less raw unit moment at : ℕ) → energy ≡ less * unit - raw * unit → less ≡ up_to - 1 → load ≡ ceiling
     → seconds ≡ moment - at → nat_le (energy * 18) (load * seconds * 5) ≡ can_count ceiling unit (moment - at) (up_to - raw)
 within_is energy seconds load ceiling up_to less raw unit moment at energy_is less_is load_is seconds_is =
@@ -41,7 +42,8 @@ within_is energy seconds load ceiling up_to less raw unit moment at energy_is le
     ap (λ (n : ℕ). nat_le (n * 18) (load * seconds * 5)) same ∙ ap (λ (n : ℕ). nat_le ((up_to - raw - 1) * unit * 18) (n * seconds * 5)) load_is
     ∙ ap (λ (n : ℕ). nat_le ((up_to - raw - 1) * unit * 18) (ceiling * n * 5)) seconds_is
 
--- Lemmas on the event engine's answer to the query for a meter whose entry needs a confirmation.
+-- Lemmas on the event engine's answer to a query for the meter of a manual entry. The meter decides
+-- whether the entry needs a confirmation.
 
 pub row_found : {T : Type 0} (found : Option T) (before after : Failures) (x : T) → IsRowFound found before after (Ok x) → (found ≡ Some x) × (after ≡ before)
 row_found None before after x (inl reported) = let never = reported.0 in absurd (cc never)
@@ -60,15 +62,15 @@ row_failed None before after why other (inl reported) = let same = reported.0 in
 row_failed (Some y) before after why other (inl reported) = let never = reported.0 in absurd (cc never)
 row_failed found before after why other (inr fails) = fails
 
--- Lemmas on the open (not closed) meter at an accounting register (a named counter).
+-- Lemmas on the open (not closed) meter of an accounting register (a named counter).
 
 pub sound_there : (facts : List Fact) (register : Option (List ℕ)) (row : Installation) → AreInRange facts
     → option_and_then (installation_at facts) register ≡ Some row → IsSound row
 sound_there facts None row ranges found = absurd (cc found)
 sound_there facts (Some name) row ranges found = ranges.at_register name row found
 
--- Whether a manual entry needs a confirmation depends on the meter that was found at the accounting
--- register. If no meter was found, none is needed.
+-- Whether a manual entry needs a confirmation depends on the meter that was found for the
+-- accounting register. If no meter was found, the entry needs no confirmation.
 pub found_doubt : (facts : List Fact) (at : ℕ) (c : Command) (register : Option (List ℕ)) (row : Installation)
     → option_and_then (installation_at facts) register ≡ Some row → doubted_in facts at c register ≡ option_and_then (doubted_at at c) (if_open row)
 found_doubt facts at c None row found = cc found
@@ -85,8 +87,8 @@ none_either : (b : Bool) (o : Option ℕ) → o ≡ None → (if b then None els
 none_either true o none = refl
 none_either false o none = none
 
--- If a request is already stored, its line has the mark ` !`, or it makes no manual entry, then it
--- needs no confirmation.
+-- If a request is already stored, or its line has the mark ` !`, or it makes no manual entry, then
+-- the request needs no confirmation.
 pub kept_undoubted : (facts : List Fact) (at : ℕ) (asked : Asked) (repeat : Repeat) → repeat_in facts asked ≡ Some repeat → doubt_of facts at asked ≡ None
 kept_undoubted facts at asked repeat kept = cond-true (is_some (repeat_in facts asked)) None _ (ap is_some kept)
 
@@ -103,8 +105,8 @@ entryless_undoubted facts at asked none =
     none_either (is_some (repeat_in facts asked)) _
     (none_either (is_marked asked.request) _ (entryless facts at asked.command (corrected_at asked.command) none))
 
--- Suppose that a request is not stored yet, and its line has no mark ` !`. Then it needs a
--- confirmation exactly if its manual entry needs one.
+-- Suppose that a request is not stored yet, and its line has no mark ` !`. Then the request needs a
+-- confirmation exactly if its manual entry needs a confirmation.
 pub doubt_is : (facts : List Fact) (at : ℕ) (asked : Asked) → repeat_in facts asked ≡ None → is_marked asked.request ≡ false
     → doubt_of facts at asked ≡ doubted_in facts at asked.command (corrected_at asked.command)
 doubt_is facts at asked new unmarked =

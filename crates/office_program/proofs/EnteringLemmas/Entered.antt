@@ -40,8 +40,8 @@ kept : {B : Type 0} (ledger : B → Ledger) (left : Office B) (back : B) → bac
     → (ledger (books_in left)).is_clean
 kept {B = B} ledger left back is clean = let P : B → Type 0 = λ b. (ledger b).is_clean in subst P is clean
 
--- After an input was entered into the opened event engine, the engine is in the state after the
--- input's lines.
+-- If the event engine was opened and an input was entered, then `ReportsEntering`, the contract for
+-- the command, holds: the engine is in the state after the input's lines.
 pub entered : {B W : Type 0} (ledger : B → Ledger) (contents : W → Option (List ℕ)) (reports : Reporting) (past : History) (caller text : List ℕ) (name : Option (List ℕ))
     (moments then later : Option (List ℕ)) (listed : List ℕ) (following : Option (List ℕ)) (first : ℕ) (books back : B) (opened left : Office B) (before silent : W)
     (holds : Option (List ℕ)) (status : ExitStatus) → name ≡ named caller → ReportsMoment moments then first → listed ≡ first ∷ []

@@ -45,7 +45,7 @@ list_wanted caller text kept bytes number list want result is same its reads =
     let Q : List ℕ → Type 0 = λ b. ReadsList caller number list.device b text result in
     rw is (list_reads caller text number list result (subst Q its (subst P same reads)))
 
--- If a line is a line of a script, then its parsed form is the request in the line.
+-- If an input line is a line of a script, then its parsed form is the request in the line.
 pub script_reads : (caller : Option (List ℕ)) (text : List ℕ) (said : ScriptLine) (want : Wanted) (result : Result Entry LineFault)
     → want ≡ wanted_in (is_marked text) said → IsOnly (words_of (unmarked text)) said → ReadsWanted caller text want result → ReadsScript caller text result
 script_reads caller text said want (Ok entry) is only reads = record {
@@ -57,13 +57,13 @@ script_reads caller text said want (Err Bad) is only reads =
     λ other line. ap (wanted_in (is_marked text)) (only.only other line) ∙ sym is ∙ reads
 script_reads caller text said want (Err Memory) is only reads = tt
 
--- If a line can't be parsed as a script's line, then it makes no request.
+-- If an input line can't be parsed as a script's line, then the line makes no request of a script.
 pub no_script : (caller : Option (List ℕ)) (text : List ℕ) (fault : LineFault) → (let r : Result ScriptLine LineFault = Err fault in Reads (words_of (unmarked text)) r)
     → ReadsScript caller text (Err fault)
 no_script caller text Bad reads = λ said line. absurd (reads said line)
 no_script caller text Memory reads = tt
 
--- If a line names a file, then its parsed form has the point list in the file.
+-- If an input line names a file, then the line's parsed form has the point list in the file.
 pub file_reads : (reports : Reporting) (caller : Option (List ℕ)) (text bytes : List ℕ) (named : FileLine) (result : Result Entry LineFault)
     → reports.files named.name (Some bytes) → ReadsList caller named.number named.device bytes (file_request text bytes) result
     → ReadsFile reports caller text named result
@@ -71,8 +71,8 @@ file_reads reports caller text bytes named (Ok entry) reported reads = (bytes, r
 file_reads reports caller text bytes named (Err Bad) reported reads = absurd reads
 file_reads reports caller text bytes named (Err Memory) reported reads = tt
 
--- If a line names a file, then the parser returns the request with the file's point list. Otherwise
--- it returns the parsed form of a line without a file.
+-- If an input line names a file, then the parser returns the request with the file's point list.
+-- Otherwise it parses the line as a line without a file.
 pub named_reads : (reports : Reporting) (caller : Option (List ℕ)) (text : List ℕ) (named : FileLine) (result : Result Entry LineFault)
     → IsFileLine (words_of text) named → ReadsFile reports caller text named result → ReadsEntry reports caller text result
 named_reads reports caller text named (Ok entry) is reads =
@@ -100,8 +100,8 @@ script_reads_on caller text (Ok entry) none reads = inr (none, reads)
 script_reads_on caller text (Err Bad) none reads = (none, reads)
 script_reads_on caller text (Err Memory) none reads = tt
 
--- If a point list (the points to poll) was parsed and its Modbus reads were planned, then its input
--- line requests this list.
+-- If a point list (the points to poll) was parsed and its Modbus reads were planned, its input line
+-- requests to store this list.
 pub list_read : (caller : Option (List ℕ)) (number : ℕ) (device : Option (List ℕ)) (text request : List ℕ) (points : List ListedPoint) (planned : Planned)
     → SpellsList text points → planned.points ≡ points → IsPlanned planned
     → ReadsList caller number device text request (Ok (Ask (asked_by caller number request (append_by device planned))))

@@ -26,8 +26,8 @@ use Rattle.office_books.proofs.Lookups.{same_itself, same_text}
 use Rattle.office_books.proofs.LostPolls.{left_in, with_lost_is}
 use Rattle.office_books.proofs.QuietFacts.{HoldsOfBooks, added_each, later_part_first, unseen}
 
--- A record of a point list, register, meter installation, meter entry or cancellation of an entry
--- has no stored answer to a request.
+-- A record of a point list, accounting register, meter installation, meter entry or cancellation of
+-- an entry has no stored answer to a request.
 no_reply : HoldsOfBooks (λ f. as_reply f ≡ None)
 no_reply = record { list = λ l. refl; register = λ r. refl; opening = λ o. refl; entry = λ b. refl; void = λ v. refl }
 
@@ -66,7 +66,8 @@ reply_none : (at : ℕ) (asked : Asked) (known : List Fact) (o : Option (List �
 reply_none at asked known None is = refl
 reply_none at asked known (Some c) is = cc is
 
--- After a request, the stored answers are the earlier answers and one new answer.
+-- After an accepted request, the stored answers are the earlier answers and the answer to this
+-- request.
 asked_first : (number at : ℕ) (slots : List Slot) (facts : List Fact) (asked : Asked) (caller : List ℕ) → asked.caller ≡ Some caller
     → replies_in (reverse (added_by number at slots facts asked.command ++ reply_by at asked) ++ facts) ≡ kept_reply at asked caller ∷ replies_in facts
 asked_first number at slots facts asked caller is =
@@ -85,7 +86,8 @@ asked_none number at slots facts asked is =
 abbrev answer_in : List Reply → (caller : List ℕ) → (number : ℕ) → Option Reply
 answer_in replies caller number = find (λ reply. same reply.caller caller && (reply.number == number)) replies
 
--- After an answer with another key (caller and number) is stored, an earlier answer is still found.
+-- If a new answer with an unused key (caller and number) is stored, then a lookup still finds each
+-- earlier answer.
 answer_stays : (new : Reply) (replies : List Reply) (caller : List ℕ) (number : ℕ) (reply : Reply) → answer_in replies new.caller new.number ≡ None
     → answer_in replies caller number ≡ Some reply → answer_in (new ∷ replies) caller number ≡ Some reply
 answer_stays new replies caller number reply none found =
@@ -102,7 +104,7 @@ answer_stays new replies caller number reply none found =
       | inr other ↦ cond-false test (Some new) (answer_in replies caller number) other ∙ found
     ]
 
--- After an answer is stored, it is found by its key (caller and number).
+-- If an answer is stored, then a lookup of the answer's key (caller and number) finds this answer.
 answer_new : (new : Reply) (replies : List Reply) → answer_in (new ∷ replies) new.caller new.number ≡ Some new
 answer_new new replies =
     let own : (same new.caller new.caller && (new.number == new.number)) ≡ true = rw (same_itself new.caller, eq-eqb new.number new.number refl) refl in
@@ -173,7 +175,8 @@ keeps_on (Opened at ∷ more) past asked kind accepted kept =
 keeps_on (Fed at e ∷ more) past asked kind accepted kept =
     keeps_next (more ++ past) at e asked kind accepted (keeps_on more past asked kind accepted.1 kept)
 
--- If all events of a history were accepted, then all events of its earlier part were accepted.
+-- If all events of a history were accepted, then all events of each earlier part of the history
+-- were accepted.
 pub accepted_before : (more past : History) → AreAccepted (more ++ past) → AreAccepted past
 accepted_before [] past accepted = accepted
 accepted_before (Opened at ∷ more) past accepted = accepted_before more past accepted.1
@@ -213,8 +216,8 @@ answers facts asked again kind who which what kept =
     let bytes : bytes_eq kept.reply.request again.request ≡ true = rw (kept.bytes ∙ sym what) (same_itself again.request) in
     rw (who ∙ kept.named, which, kept.found, bytes) (ap (λ (k : CommandKind). let r : Result CommandKind Refusal = Ok k in Some r) kept.done)
 
--- If a stored answer is the answer to a request, then the request has the bytes that are stored
--- with the answer.
+-- If the stored answer with a request's key is the answer to this request, then the bytes stored
+-- with the answer are the request's bytes.
 by_bytes : (asked : Asked) (reply : Reply) (kind : CommandKind) (b : Bool) → bytes_eq reply.request asked.request ≡ b
     → (let r : Result CommandKind Refusal = Ok kind in (if b then Ok reply.kind else Err refusal.Reused) ≡ r) → (reply.request ≡ asked.request) × (reply.kind ≡ kind)
 by_bytes asked reply kind true same_bytes h = (same_text reply.request asked.request same_bytes, cc h)

@@ -12,10 +12,10 @@ use Rattle.script_text.specs.LineWords.Words.{words_of}
 use Rattle.office_program.specs.Entering.Marks.{is_marked, unmarked}
 use Rattle.office_program.specs.Entering.ReadLines.{IsNoRead, IsNoReadLine, IsRead, IsReadLine, exchange_said, install_said, line_said, may_end, read_said, read_word, verb_said}
 
--- Lemmas: the parser returns each line with `@read` that the words form.
+-- Lemmas: if words form an input line with `@read`, then the parser returns this line.
 
--- If words form a line that begins with a field, then the parser reads this field from the first
--- word. A field that may be missing is also read from no words.
+-- If words spell a field and further fields, then the parser reads the value of the field from the
+-- first word. If no word is left, it reads the default value of an optional field.
 first_read : (kind : Kind) (value : Value kind) (words : List (List ℕ)) (more : List Field) → Spell words (Of kind value ∷ more)
     → (rest : List (List ℕ)) × (first_value kind words ≡ Some (value, rest)) × Spell rest more
 first_read kind value [] more h = ([], ap (option_map (λ v. (v, []))) h.0, h.1)
@@ -52,7 +52,7 @@ said_of words (read.Exchange number register last rolls meter ceiling range) h =
     let j = first_read Range range i.0 _ i.2 in
     rw (a.1, b.1, c.1, d.1, e.1, f.1, g.1, i.1, j.1, ends_read j.0 j.2) refl
 
--- Lemmas: the words form the line with `@read` that the parser returns.
+-- Lemmas: if the parser returns an input line with `@read`, then the words form this line.
 
 read_spelled : (words rest : List (List ℕ)) (more : List Field) → read_word words ≡ Some rest → Spell rest more → Spell words (Word (codes "@read") ∷ more)
 read_spelled [] rest more h spelled = cc h

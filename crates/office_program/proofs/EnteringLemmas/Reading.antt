@@ -31,8 +31,8 @@ counter_reported reports facts register counter device None found there reported
 counter_reported reports facts register counter device (Some shown) found there reported =
     record { counter = counter; device = device; register_is = found; device_is = there; reported = reported }
 
--- Suppose that an earlier query did not fail. Then the answer to a later query for the counter's
--- reading is also correct for the state before the earlier query.
+-- Suppose that an earlier query did not fail, so that no failure count changed. Then the answer to
+-- a later query for the counter's reading is also correct for the counts before the earlier query.
 pub read_on : {B : Type 0} (ledger : B → Ledger) (reports : Reporting) (register : Option (List ℕ)) (past : History) (before between after : Failures) (office : Office B)
     (result : Result (Option Shown) Refusal) → between ≡ before → IsReadThere ledger reports register past between after office result
     → IsReadThere ledger reports register past before after office result
@@ -55,8 +55,8 @@ filled ledger reports read register past before between after office (Err why) n
     let on = read_on ledger reports register past before between after office (Err why) none done in
     record { stands = on.stands; reported = on.reported }
 
--- If the store has the request of an input line with `@read` (the reading's placeholder), then a
--- lookup of the request finds a stored request.
+-- If the store has the request of an input line with `@read` (the reading's placeholder), then the
+-- line is found to be a retry.
 pub kept_read : (facts : List Fact) (read : ReadRequest) (repeat : Repeat) → repeat_of_read facts read ≡ Some repeat → is_some (repeat_of_read facts read) ≡ is_some (Some repeat)
 kept_read facts read repeat kept = ap is_some kept
 
@@ -66,8 +66,8 @@ found_as reports past read found shown before after same reported =
     let P : Option Shown → Type 0 = λ s. IsShownFor reports (facts_of past) read s in
     (subst P same reported.0, reported.1)
 
--- If a query does not fail, then a request after the query has the same effect as without the
--- query.
+-- If a query does not fail, then a later request has the same effect as if the query had not been
+-- made.
 pub asked_on : {B : Type 0} (ledger : B → Ledger) (request : Request) (past : History) (progress : Progress) (printed moments : Option (List ℕ)) (before between : Failures)
     (now : RoundState) (office : Office B) (result : Result Progress Error) → between ≡ before
     → HasAsked ledger request past progress (round_state printed moments between) now office result

@@ -56,10 +56,10 @@ requests_are_repeated past more at again_at asked again accepted same =
     decided history again_at (event.Asked again) (kind_of asked.command)
     (answers (facts_of history) asked again (kind_of asked.command) same.caller same.number same.request kept)
 
--- Lemmas: an input line makes one request.
+-- Lemmas: all parsed forms of an input line make the same request (same caller, number and bytes).
 
 -- The request of an input line with `@read`, for an arbitrary reading of the counter. The request's
--- caller, number and bytes do not depend on the reading, so they identify the line's retries.
+-- caller, number and bytes identify a retry, and do not depend on the reading.
 abbrev asked_like : ReadRequest → Asked
 asked_like read = asked_at read 0 (pos 0)
 
@@ -142,8 +142,8 @@ KeepsEntry later (entry.Ask asked) = (kind : CommandKind) × Keeps (facts_of lat
 KeepsEntry later (entry.Read read) = (kind : CommandKind) × Keeps (facts_of later) (asked_like read) kind
 KeepsEntry later (entry.Faulty rows) = ⊥
 
--- True if the answer to an accepted request is the answer to a retry, or the answer to a new
--- request.
+-- True if the answer to an accepted request is `Again`, because the request is stored. Also true if
+-- the request is not stored and has the answer to a first execution.
 abbrev Acted : (history : History) (at : ℕ) (asked : Asked) → Result Answer Refusal → (kept : Option (Result CommandKind Refusal)) → (why : Option Refusal) → Type 0
 Acted history at asked result kept why =
     ((kind : CommandKind) × (result ≡ Ok (answer.Again kind)) × (kept ≡ Some (Ok kind)))
@@ -161,8 +161,8 @@ not_outside : (takes_memory : Type 0) (result : Result Answer Refusal) (before a
 not_outside takes_memory (Ok given) before after ok fails = fails
 not_outside takes_memory (Err why) before after ok fails = cc ok
 
--- If a command is newly accepted, then its event is added to the history of accepted events. The
--- command's answer is not the answer to a retry.
+-- If an event was answered `Started` or `Done`, then the event is added to the history of accepted
+-- events, because it is no retry.
 fed_by : (history : History) (at : ℕ) (e : Event) (b : Bool) (first count of : ℕ) (kind : CommandKind)
     → with_answer history at e (Ok (if b then answer.Started first count of else answer.Done kind)) ≡ Fed at e ∷ history
 fed_by history at e true first count of kind = refl

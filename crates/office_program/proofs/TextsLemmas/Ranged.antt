@@ -1,4 +1,5 @@
--- Properties of the days in a register's report on a range, and of the printed text.
+-- Properties of an accounting register's report on a range of days: of the days in the report, and
+-- of the printed text.
 use Rattle.std.proofs.Common.{◌≡◌, inl, inr, ℕ, Bool, true, false, Option, List, [], ◌∷◌, ◌++◌, refl, sym, subst, ap, ◌∙◌, append-nil, append_assoc}
 use Rattle.std.specs.Prelude.{Result, Ok, Err, if◌then◌else◌}
 use Rattle.command_io.specs.declared.status.ExitStatus.{ExitStatus}
@@ -20,7 +21,7 @@ use Rattle.office_program.specs.Texts.EndTexts.{IsReported}
 use Rattle.office_program.specs.Texts.RangedReports.{IsRangedReport, PrintsRest}
 use Rattle.office_program.specs.Texts.Reports.{meant_by}
 
--- Lemmas on the printed text of a register's report on a range of days.
+-- Lemmas on the printed text of an accounting register's report on a range of days.
 
 -- If the writer of a report received the first days and then more days one by one, then it has
 -- received all days.
@@ -41,7 +42,7 @@ reported_by false status text old new is got = inl (is, got)
 reported_by true status text old new is got = inr (is, got)
 
 -- If the office (the event engine) passed the days of a range to the writer of a report, then the
--- report's text was printed. If the report was refused, the refusal was printed.
+-- report's text was printed. If the office refused the report, the refusal was printed.
 pub printed : {W : Type 0} (contents : W → Option (List ℕ)) (zone : Zone) (past : History) (register : Option (List ℕ)) (form : ReportForm)
     (before after : Failures) (from to left : ReportRows W) (output : W) (status : ExitStatus) (reply : Result (Unit {0}) Refusal)
     → IsFresh contents form output from
@@ -60,7 +61,7 @@ printed {W} contents zone past register form before after from to left output st
     let P : W → Type 0 = λ w. IsReported (refused_line why) Refused status (contents w) (contents left.output.now) in
     (refused_line why, refl, subst P same rest.reported)
 
--- While the days of a report are written, the report's text is printed to the same writer.
+-- After the days of a report were written, the report still prints to the same output.
 taken_by : {W : Type 0} (contents : W → Option (List ℕ)) (days : List DayTotal) (from to : ReportRows W)
     → TakesAll (TakesDay contents) from days to → to.output.ghost_name ≡ from.output.ghost_name
 taken_by {W} contents [] from to took = ap (λ (rows : ReportRows W). rows.output.ghost_name) took

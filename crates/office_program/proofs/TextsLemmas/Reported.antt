@@ -1,5 +1,5 @@
 -- Properties of the days that the office (the event engine) passes to the writer of a report, and
--- of the printed text.
+-- of the report's printed text.
 use Rattle.std.proofs.Common.{◌≡◌, ◌≤◌, ◌<◌, ◌^◌, ℕ, Option, List, [], ◌++◌, length, refl, ap, arith}
 use Rattle.std.specs.List.{flat_map}
 use Rattle.std.specs.Prelude.{Result, Ok, Err}
@@ -19,7 +19,8 @@ use Rattle.interval_core.specs.Lines.{day_line, end_line}
 counts : (n : ℕ) → n < 2 ^ 64 → counted n ≡ n
 counts n few = min-eq_left (let fits : n ≤ 18446744073709551615 = omega (arith, few) in fits)
 
--- The days that the writer of a report received, with the last line, equal the report.
+-- The lines of the days that the writer of a report received, followed by the last line, are the
+-- text of the report.
 pub as_reported : {S : Type 0} (takes : S → DayTotal → S → Type 0) (zone : Zone) (past : History) (register : Option (List ℕ))
     (before after : Failures) (from to : S) (reply : Result (Unit {0}) Refusal)
     → HandsDays takes zone (facts_of past) register before after from to reply

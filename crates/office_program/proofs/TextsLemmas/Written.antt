@@ -1,4 +1,4 @@
--- Properties of the days that the writer of a report has written, and of the text after the days.
+-- Properties of the rows that the writer of a report has written, and of the text after the rows.
 use Rattle.std.proofs.Common.{◌≡◌, ◌+◌, inl, inr, ℕ, true, false, Option, List, ◌++◌, length, refl, sym, ap, subst, ◌∙◌, arith}
 use Rattle.std.specs.List.{flat_map}
 use Rattle.std.specs.Io.KnownBytes.{Appends}
@@ -12,7 +12,7 @@ use Rattle.command_io.specs.declared.status.ExitStatus.TheVariants.{Failed}
 use Rattle.office_program.specs.Texts.EndTexts.{IsReported}
 use Rattle.sun_points.specs.Writing.{GotPart}
 
--- If a write of the rows of a report failed, then the rows and the last text were printed in part.
+-- If a write of the rows of a report failed, then only a part of the report's text was printed.
 pub reported_part : {W T : Type 0} (contents : W → Option (List ℕ)) (line : T → List ℕ) (rows : List T) (last : List ℕ)
     (from to : RowLines W) (meant : ExitStatus) (o o' : W) → from.failed ≡ false → from.count ≡ 0 → TakesAll (TakesLine contents line) from rows to
     → to.failed ≡ true → from.output.now ≡ o → o' ≡ to.output.now
@@ -29,8 +29,8 @@ reported_after : (x y : List ℕ) (meant status : ExitStatus) (a b c : Option (L
 reported_after x y meant status a b c first (inl reported) = inl (reported.0, Appends-trans a b c x y first reported.1)
 reported_after x y meant status a b c first (inr part) = inr (part.0, following x y a b c first part.1)
 
--- If no write of the rows of a report failed, then all rows were printed, followed by the last
--- text.
+-- If no write of the rows of a report failed, then all rows were printed, followed by the report's
+-- last text.
 pub reported_all : {W T : Type 0} (contents : W → Option (List ℕ)) (line : T → List ℕ) (rows : List T) (last : ℕ → List ℕ)
     (from to : RowLines W) (meant status : ExitStatus) (o o' : W) → from.failed ≡ false → from.count ≡ 0
     → TakesAll (TakesLine contents line) from rows to → to.failed ≡ false → from.output.now ≡ o

@@ -10,7 +10,8 @@ ends poll (note.Outcome ended outcome) = ended == poll
 ends poll (note.Reading meter raw rolls step) = false
 ends poll (note.Held meter raw cause) = false
 
--- True if the poll is still pending, because no notification reports its outcome.
+-- True if none of the notifications reports the outcome of the poll, which is therefore still
+-- pending.
 abbrev pub waits : List Note → (poll : ℕ) → Bool
 waits notes poll = not (list_any (ends poll) notes)
 

@@ -18,8 +18,8 @@ use Rattle.office_program.specs.declared.device_rounds.round.Round.{Round}
 use Rattle.office_program.specs.declared.device_rounds.stage.Stage.{Stage}
 use Rattle.office_program.specs.declared.device_rounds.stage.Stage.TheVariants.{Off, Joining, Starting, Waiting, Leaving}
 
--- The polling round of a device that is not connected. It requests nothing until the device
--- connects.
+-- The polling round of a device that is not connected. The round generates no event until the
+-- device connects.
 abbrev pub unconnected : (device : Option (List ℕ)) → Round
 unconnected device = record {
   device = device;
@@ -30,12 +30,12 @@ unconnected device = record {
   sum = sums.none;
 }
 
--- True if the polling round requests an event of the office (the event engine).
+-- True if the polling round generates an event for the office (the event engine).
 abbrev pub has_request : Round → Bool
 has_request round = stages.has_request round.stage
 
--- The event that a polling round requests at a stage: `Connected`, a start of the remaining reads,
--- or `Gone`. `None` if the round waits for responses, or its device is not connected.
+-- The event that a polling round generates at a stage: `Connected`, a start of the remaining Modbus
+-- reads, or `Gone`. `None` if the round waits for responses, or its device is not connected.
 abbrev pub wish_at : Stage → (device : Option (List ℕ)) → (started : ℕ) → Option Event
 wish_at Off device started = None
 wish_at Joining device started = Some (event.Connected device)
@@ -44,12 +44,13 @@ wish_at Starting device started =
 wish_at Waiting device started = None
 wish_at (Leaving closing) device started = Some (event.Gone device closing)
 
--- The event that the polling round requests, or `None` if the round requests no event.
+-- The event that the polling round generates for the event engine, or `None` if the round generates
+-- no event.
 abbrev pub wish_of : Round → Option Event
 wish_of round = wish_at round.stage round.device round.started
 
--- A polling round at a stage after its device connected. If no round was running, a new round. A
--- running round is unchanged.
+-- The polling round after its device connected, by the round's stage before: a new round if no
+-- round was running (`Off`), otherwise the unchanged round.
 abbrev pub joined_at : Stage → Round → Round
 joined_at Off round = record {
   device = round.device;
@@ -65,6 +66,8 @@ joined_at Waiting round = round
 joined_at (Leaving closing) round = round
 
 -- The polling round after its device connected.
+--
+-- The result depends on the stage of the round, as `joined_at` describes.
 abbrev pub joined : Round → Round
 joined round = joined_at round.stage round
 
@@ -95,8 +98,7 @@ begun first count planned round = record {
 
 -- The polling round after the event engine's answer to its start of Modbus reads.
 --
--- If the answer reports no started polls, or there are more than 16 pending polls, the round ends
--- early.
+-- If the answer is not `Started`, or more than 16 polls would be pending, the round ends early.
 abbrev pub started_by : Answer → Round → Round
 started_by answer.Noted round = broken_off round
 started_by (answer.Done kind) round = broken_off round
@@ -105,7 +107,8 @@ started_by (answer.Started first count of) round =
     if nat_le (length round.polls.items + count) 16 then begun first count of round
     else broken_off round
 
--- A polling round at a stage after the event engine's answer to the round's event.
+-- The polling round after the event engine's answer to the round's event, by the round's stage
+-- before the answer.
 --
 -- After `Connected` the round starts its Modbus reads. A refusal ends the round early. If the
 -- engine refused `Connected`, the round is over at once.
@@ -119,7 +122,7 @@ answered_at Waiting (Ok given) round = round
 answered_at Waiting (Err why) round = broken_off round
 answered_at (Leaving closing) result round = record round { stage = Off }
 
--- The polling round after the event engine answered the event that the round requested.
+-- The polling round after the event engine answered the event that the round generated.
 abbrev pub answered : Result Answer Refusal → Round → Round
 answered result round = answered_at round.stage result round
 
@@ -131,8 +134,8 @@ gone_on round =
     else if length round.polls.items == 0 then record round { stage = Leaving closing.Gone }
     else round
 
--- A polling round at a stage after the event engine's notifications of an event. `ended` is true if
--- the notifications end one of the round's polls.
+-- The polling round after the event engine's notifications of an event, by the round's stage
+-- before. `ended` is true if the notifications end one of the round's polls.
 abbrev pub going_on : Stage → (ended : Bool) → Round → Round
 going_on Off ended round = round
 going_on Joining ended round = round

@@ -8,7 +8,7 @@ use Rattle.office_events.specs.declared.answers.Note.TheVariants as note
 use Rattle.office_events.specs.Numbers.{one_more}
 use Rattle.office_program.specs.declared.device_rounds.polls.Sum.{Sum}
 
--- The counts of a polling round without ended polls.
+-- The counts of a polling round that has no ended polls.
 abbrev pub none : Sum
 none = record { answered = 0; silent = 0; failed = 0 }
 
@@ -28,7 +28,7 @@ noted polls (note.Outcome poll outcome) sum =
 noted polls (note.Reading meter raw rolls step) sum = sum
 noted polls (note.Held meter raw cause) sum = sum
 
--- The counts after several notifications, in order.
+-- The counts after several notifications, which are counted in order.
 abbrev pub noted_all : (polls : List ℕ) → List Note → Sum → Sum
 noted_all polls [] sum = sum
 noted_all polls (one ∷ notes) sum = noted_all polls notes (noted polls one sum)

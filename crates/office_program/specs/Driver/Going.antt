@@ -1,5 +1,5 @@
 -- The events that one call of `turn` has fed to the office (the event engine) so far, and the
--- resulting state. A call of `turn` processes one device event.
+-- resulting state. A call of `turn` processes one device event, such as received bytes.
 use Rattle.std.specs.Prelude.{◌≡◌, ◌⊎◌, ◌≤◌, ℕ, List, [], ◌∷◌, length, Option, Some, None}
 use Rattle.office_books.specs.History.{History}
 use Rattle.office_books.specs.declared.failures.Failures.{Failures}
@@ -27,7 +27,8 @@ scene office failures rounds observer =
     record { office = office; failures = failures; rounds = rounds; observer = observer }
 
 -- The state at the start of a call of `turn`, which processes one device event. It has the store's
--- failure counts, the observer, and the polling rounds with the event to feed first.
+-- failure counts, the observer, the polling rounds, and the event to feed first to the event
+-- engine.
 pub record Start (V : Type 0) : Type 0 where
   pub failures : Failures
   pub table : Table
@@ -42,11 +43,11 @@ abbrev pub AreAt : ℕ → List Answered → Type 0
 AreAt at [] = Unit {0}
 AreAt at (one ∷ earlier) = AreAt at earlier × (one.at ≡ at)
 
--- The invariant of a call of `turn`: it has fed exactly the events that were next, all with one
--- timestamp.
+-- The invariant of a call of `turn`: each event that the call has fed to the event engine was the
+-- next event to feed, and all events have one timestamp.
 --
--- Each event has the defined answer, and the observer was shown each event. The event engine and
--- the polling rounds are in the state after the events.
+-- The event engine gave the defined answer to each event, and the observer was shown each event.
+-- The engine and the polling rounds are in the state after the events.
 pub record Going {B V : Type 0} (ledger : B → Ledger) (sees : V → Shown → V → Type 0)
     (past : History) (begun : Start V)
     (at : ℕ) (fed : List Answered) (first : Option Wished) (now : Scene B V) : Type 0 where
@@ -57,10 +58,10 @@ pub record Going {B V : Type 0} (ledger : B → Ledger) (sees : V → Shown → 
   pub rounds : table first now.rounds ≡ table_with past begun.table fed
   pub shown : AreShown sees begun.observer now.observer past begun.table fed
 
--- True if the event `one` was fed and the state follows from it, provided that `one` is the next
--- event to feed.
+-- States that if `one` is the next event for the event engine, the call fed this event to the
+-- engine. Then `new` is the state after the event.
 --
--- This assumes that no wrong result of the store was used so far.
+-- States nothing if `one` is not the next event, or if a wrong result of the store was used.
 abbrev pub FeedsNext : {B V : Type 0} → (B → Ledger) → (V → Shown → V → Type 0) → (at : ℕ) → Wished
     → (old new : Scene B V) → Type 0
 FeedsNext {B} {V} ledger sees at one old new =
@@ -70,12 +71,12 @@ FeedsNext {B} {V} ledger sees at one old new =
     → (next : Answered) × Going ledger sees past begun at (next ∷ fed) None new
 
 -- True if a call of `turn` (which processes one device event) is complete: no polling round
--- requests an event, or the call has fed 256 or more events.
+-- generates an event, or the call has fed at least 256 events to the event engine.
 abbrev pub IsSettled : List Round → (before after : List Answered) → Type 0
 IsSettled rounds before after = (first_request rounds ≡ None) ⊎ (256 ≤ length after)
 
--- True if the events that the polling rounds request were fed, until no round requested an event or
--- 256 events were fed.
+-- True if the polling rounds' events were fed to the event engine, until no round generated an
+-- event or 256 events were fed.
 abbrev pub OfficeGoesOn : {B V : Type 0} → (B → Ledger) → (V → Shown → V → Type 0) → (at : ℕ)
     → (old new : Scene B V) → Type 0
 OfficeGoesOn {B} {V} ledger sees at old new =
@@ -84,24 +85,25 @@ OfficeGoesOn {B} {V} ledger sees at old new =
     → (later : List Answered) × Going ledger sees past begun at later None new
     × IsSettled new.rounds fed later
 
--- The contract of feeding one event. `FeedsNext` relates the event engine, its polling rounds and
--- its observer before and after the call.
+-- The contract of feeding one event to the event engine. `FeedsNext` relates the engine, its
+-- polling rounds and its observer before and after the call.
 abbrev pub FeedsOne : {B V : Type 0} → (B → Ledger) → (V → Shown → V → Type 0) → (at : ℕ) → Wished
     → (old new : Office B) → (before after : List Round) → (from to : V) → Type 0
 FeedsOne ledger sees at one old new before after from to =
     FeedsNext ledger sees at one (scene old (failures_of ledger old) before from)
     (scene new (failures_of ledger new) after to)
 
--- The contract of feeding the requested events. `OfficeGoesOn` relates the event engine, its
--- polling rounds and its observer before and after the call.
+-- The contract of feeding the polling rounds' events to the event engine. `OfficeGoesOn` relates
+-- the engine, its polling rounds and its observer before and after the call.
 abbrev pub Settles : {B V : Type 0} → (B → Ledger) → (V → Shown → V → Type 0) → (at : ℕ)
     → (old new : Office B) → (before after : List Round) → (from to : V) → Type 0
 Settles ledger sees at old new before after from to =
     OfficeGoesOn ledger sees at (scene old (failures_of ledger old) before from)
     (scene new (failures_of ledger new) after to)
 
--- The result of a complete call of `turn`. It fed the event of a device, and then the events that
--- the polling rounds requested, until no round requested an event or 256 events were fed.
+-- The result of a complete call of `turn`. The call fed the device event, if there was one, to the
+-- event engine. Then it fed the events of polling rounds, until no round generated an event or 256
+-- events were fed.
 pub record TakesTurn {B V : Type 0} (ledger : B → Ledger) (sees : V → Shown → V → Type 0)
     (past : History) (begun : Start V)
     (at : ℕ) (now : Scene B V) : Type 0 where
@@ -112,8 +114,8 @@ pub record TakesTurn {B V : Type 0} (ledger : B → Ledger) (sees : V → Shown 
 -- True if an event engine has performed a complete call of `turn` (which processes one device
 -- event).
 --
--- `begun` has the polling rounds and the event to feed first. `rounds` and `to` are the rounds and
--- the observer after the call.
+-- `begun` has the polling rounds and the event to feed first to the engine. `rounds` and `to` are
+-- the rounds and the observer after the call.
 abbrev pub Turns : {B V : Type 0} → (B → Ledger) → (V → Shown → V → Type 0) → (at : ℕ)
     → (begun : Table) → (old new : Office B) → (rounds : List Round) → (from to : V) → Type 0
 Turns ledger sees at begun old new rounds from to =

@@ -1,8 +1,8 @@
--- The order of the events that one call of `turn` feeds to the office (the event engine). The
--- device event comes first, and then the events that polling rounds request, in the order of their
--- slots.
+-- The order of the events that one call of `turn` feeds to the office (the event engine).
 --
--- Lists of fed events have the latest event first.
+-- The device event comes first, if it is to be fed (received bytes or a timer event). Then come the
+-- events that polling rounds generate: always the event of the first slot whose round generates
+-- one. Lists of fed events have the latest event first.
 use Rattle.std.specs.Prelude.{◌≡◌, ℕ, zero, suc, List, [], ◌∷◌, map, position, slice_get, Option, Some, None, Result}
 use Rattle.office_events.specs.declared.answers.Answer.{Answer}
 use Rattle.office_events.specs.declared.answers.Note.{Note}
@@ -21,61 +21,65 @@ use Rattle.office_events.specs.Showing.{Shown, shown}
 use Rattle.office_program.specs.declared.driver.device_events.DeviceEvent.{DeviceEvent}
 use Rattle.office_program.specs.declared.driver.device_events.DeviceEvent.TheVariants.{Connected, Received, Closed, Tick}
 
--- An event to feed to the event engine, with the slot (index) of the polling round that requests
--- the event. The slot is `None` for an event of a device.
+-- An event to feed to the event engine, with the slot (index) of the polling round that gets the
+-- engine's answer: the round that generated the event, or whose device sent the bytes. The slot is
+-- `None` for a timer event.
 pub record Wished : Type 0 where
   pub place : Option ℕ
   pub event : Event
 
--- An event to feed for the polling round in slot `place`, or for no polling round.
+-- The event `e` to feed to the event engine, for the polling round in slot `place` that gets the
+-- answer, or for no polling round.
 abbrev pub wished : Option ℕ → Event → Wished
 wished place e = record { place = place; event = e }
 
--- The event that the polling round in slot `place` requests, or `None` if the round requests no
+-- The event that the polling round in slot `place` generates, or `None` if the round generates no
 -- event.
 abbrev pub wished_at : ℕ → Option Event → Option Wished
 wished_at place None = None
 wished_at place (Some e) = Some (wished (Some place) e)
 
--- The event that the polling round in slot `place` requests. `None` if the slot is empty or the
--- round requests no event.
+-- The event that the polling round in slot `place` generates. `None` if the slot is empty or the
+-- round generates no event.
 abbrev pub wish_in : ℕ → Option Round → Option Wished
 wish_in place None = None
 wish_in place (Some round) = wished_at place (wish_of round)
 
--- The event that the polling round in a slot requests, or `None` without a slot.
+-- The event that the polling round in the given slot generates, or `None` if no slot is given.
 abbrev pub wish_from : Option ℕ → List Round → Option Wished
 wish_from None rounds = None
 wish_from (Some place) rounds = wish_in place (slice_get rounds place)
 
--- The event of the first polling round that requests an event, or `None` if no round requests an
+-- The event of the first polling round that generates an event, or `None` if no round generates an
 -- event.
 abbrev pub first_request : List Round → Option Wished
 first_request rounds = wish_from (position has_request rounds) rounds
 
--- The event to feed, together with its slot: the index of the polling round that requests the
--- event.
+-- The event to feed to the event engine, together with its slot: the index of the polling round
+-- that generates the event.
 abbrev pub as_wished : Option (ℕ × Event) → Option Wished
 as_wished None = None
 as_wished (Some one) = Some (wished (Some one.0) one.1)
 
--- The state of the polling rounds while `turn` processes one device event, and the event to feed
--- before any event that the rounds request.
+-- The state of the polling rounds while `turn` processes one device event. `first` is the event, if
+-- any, to feed to the event engine before the rounds' events.
 pub record Table : Type 0 where
   pub first : Option Wished
   pub rounds : List Round
 
--- The polling rounds, together with the event to feed before any event that they request.
+-- The polling rounds, together with the event, if any, to feed to the event engine before the
+-- rounds' events.
 abbrev pub table : Option Wished → List Round → Table
 table first rounds = record { first = first; rounds = rounds }
 
--- The next event to feed: the event in `first` if there is one, otherwise the event of the first
--- polling round that requests an event.
+-- The next event to feed to the event engine: the event in `first` if there is one, otherwise the
+-- event of the first polling round that generates an event.
 abbrev pub next_by : Option Wished → List Round → Option Wished
 next_by None rounds = first_request rounds
 next_by (Some one) rounds = Some one
 
--- The next event to feed in this state of a call of `turn`, which processes one device event.
+-- The event that a call of `turn` (which processes one device event) next feeds to the event
+-- engine. `None` if no event is left.
 abbrev pub next_of : Table → Option Wished
 next_of at = next_by at.first at.rounds
 
@@ -86,24 +90,25 @@ at_place place change [] = []
 at_place zero change (round ∷ rounds) = change round ∷ rounds
 at_place (suc place) change (round ∷ rounds) = round ∷ at_place place change rounds
 
--- The polling rounds after the event engine's answer to an event. Only the round that requested the
--- event, in its slot, gets the answer.
+-- The polling rounds after the event engine's answer to an event. Only the round in the event's
+-- slot gets the answer.
 abbrev pub answered_for : Option ℕ → Result Answer Refusal → List Round → List Round
 answered_for None answer rounds = rounds
 answered_for (Some place) answer rounds = at_place place (answered answer) rounds
 
--- The polling rounds after an event. The round that requested the event gets the answer, and then
--- all rounds get the notifications.
+-- The polling rounds after an event. The round in the event's slot gets the answer, and then all
+-- rounds get the notifications.
 abbrev pub reported : Option ℕ → Result Answer Refusal → List Note → List Round → List Round
 reported place answer notes rounds = map (heard notes) (answered_for place answer rounds)
 
--- The slot of the polling round that requests the event. `None` without an event or without a slot.
+-- The slot of the polling round that gets the answer to the event. `None` if there is no event, or
+-- for a timer event.
 abbrev pub place_of : Option Wished → Option ℕ
 place_of None = None
 place_of (Some one) = one.place
 
--- The state of a call of `turn`, which processes one device event, after the next event. The event
--- engine gave this answer and these notifications for the event.
+-- The state of a call of `turn` after it fed the next event. `answer` and `notes` are the event
+-- engine's answer and notifications for this event.
 abbrev pub table_after : Table → Result Answer Refusal → List Note → Table
 table_after at answer notes = table None (reported (place_of (next_of at)) answer notes at.rounds)
 
@@ -112,25 +117,26 @@ abbrev pub notes_of : (past : History) → List Answered → Answered → List N
 notes_of past earlier one = notes_after (history_with past earlier) one.at one.event one.result
 
 -- The state of a call of `turn` (which processes one device event) after the call fed a list of
--- events.
+-- events to the event engine.
 abbrev pub table_with : (past : History) → Table → List Answered → Table
 table_with past from [] = from
 table_with past from (one ∷ earlier) =
     table_after (table_with past from earlier) one.result (notes_of past earlier one)
 
--- True if `e` is the event to feed next. False if there is no event to feed.
+-- True if `e` is the event to feed next to the event engine. False if there is no event to feed.
 abbrev pub IsNext : Option Wished → Event → Type 0
 IsNext None e = ⊥
 IsNext (Some one) e = e ≡ one.event
 
--- True if each event in the list was the next event to feed after the earlier events.
+-- True if each event in the list was the next event to feed to the event engine after the earlier
+-- events.
 abbrev pub AreNext : (past : History) → Table → List Answered → Type 0
 AreNext past from [] = Unit {0}
 AreNext past from (one ∷ earlier) =
     AreNext past from earlier × IsNext (next_of (table_with past from earlier)) one.event
 
--- The record shown to the observer for an event: its slot, timestamp, event, answer, notifications,
--- and bytes to send.
+-- The record shown to the observer for an event: the slot of its polling round, its timestamp, the
+-- event, the answer, the notifications, and the bytes to send.
 abbrev pub shown_of : (past : History) → Table → List Answered → Answered → Shown
 shown_of past from earlier one =
     shown (place_of (next_of (table_with past from earlier))) one.at one.event one.result
@@ -167,13 +173,14 @@ came_from place None piece = None
 came_from place (Some device) piece = Some (wished (Some place) (event.Bytes device piece))
 
 -- The state at the start of a call of `turn` for bytes from the device in slot `place`. The event
--- for the bytes is fed first.
+-- for the bytes is fed to the event engine first.
 abbrev pub brought : ℕ → List ℕ → List Round → Table
 brought place piece rounds = table (came place (slice_get rounds place) piece) rounds
 
--- The state at the start of a call of `turn` for one device event. Awaited bytes and a timer event
--- are fed first. A connection or its end only changes the event that the device's polling round
--- requests.
+-- The state at the start of a call of `turn` for one device event.
+--
+-- Awaited bytes and a timer event are fed to the event engine first. A connection or its end only
+-- changes the event that the device's polling round generates.
 abbrev pub opened : DeviceEvent → List Round → Table
 opened (Connected place) rounds = table None (at_place place joined rounds)
 opened (Received place piece) rounds = brought place piece rounds

@@ -33,14 +33,14 @@ use Rattle.office_program.specs.declared.entering.progress.Progress.{Progress}
 use Rattle.office_program.specs.Entering.Course.{Asked, Came, EntersLine, IsAskedAt, IsCameOf, IsShown, TakesLine, progress_after, reply_text}
 use Rattle.office_program.specs.Entering.Lines.{Reporting}
 
--- The text that reports the event engine's answer to the last event. It has the notifications and
--- the answer, or the number of the refusal.
+-- The text that reports the event engine's answer to the last event: the notifications and the
+-- answer, or the numeric code of the refusal.
 abbrev pub reported_text : {B : Type 0} → Office B → Result Answer Refusal → List ℕ
 reported_text office (Ok given) = accepted_text given (notes_in office) (outgoing_in office)
 reported_text office (Err why) = refused_line why
 
 -- True if the message for a bad input line was printed, or a part of the message if the write
--- failed. If memory ran out, nothing was printed.
+-- failed. Also true if memory ran out and nothing was printed.
 abbrev pub ReportsFault : LineFault → (number : ℕ) → ExitStatus → (old new : Option (List ℕ)) → Type 0
 ReportsFault Bad number Refused old new = Appends old new (bad_line number)
 ReportsFault Bad number Failed old new = GotPart (bad_line number) old new
@@ -75,7 +75,7 @@ pub record ReportsWhyNot (line : List ℕ) (at : ℕ) (had holds : Option (List 
   pub text : GotText result line had holds
   pub next : IfOk result (λ next. next ≡ record { latest = at; refused = true })
 
--- True if the input line was processed and its outcome was printed, whether or not it made a
+-- True if the input line was processed and its outcome was printed, whether or not the line made a
 -- request. If the write failed, a part of the outcome was printed.
 pub record HasCome {B : Type 0} (ledger : B → Ledger) (reports : Reporting) (entry : Entry)
     (past : History) (progress : Progress) (begun now : RoundState) (office : Office B)
@@ -95,7 +95,8 @@ EntersAt b w reports entry progress at old new had holds result = (moments later
     (round_state (w.contents had) moments (failures_of b.ledger old))
     (round_state (w.contents holds) later (failures_of b.ledger new)) new result)
 
--- True if the request was fed to the event engine, or the reason why it was not fed was printed.
+-- True if the request was fed to the event engine and the answer was printed. Also true if the
+-- reason why the request was not fed was printed.
 pub record HasAsked {B : Type 0} (ledger : B → Ledger) (request : Request) (past : History)
     (progress : Progress) (begun now : RoundState) (office : Office B)
     (result : Result Progress Error) : Type 0 where
@@ -114,15 +115,15 @@ AsksTimed b w request progress at old new had holds result = (moments later : Op
     (round_state (w.contents holds) later (failures_of b.ledger new)) new result)
 
 module _ {B C W : Type 0} (b : stores.Ghosts B) (c : clocks.Ghosts C) (w : writers.Ghosts W) where
-  -- True if the input line with the parsed form `entry` was processed and its outcome was printed.
-  -- The line may have made a request or not.
+  -- True if the input line with the parsed form `entry` was processed and its outcome was printed,
+  -- whether or not the line made a request.
   abbrev pub EntersEntry : Reporting → Entry → Progress → (old new : Office B) → (before after : C)
       → (had holds : W) → Result Progress Error → Type 0
   EntersEntry reports entry progress old new before after had holds result = After b.ledger old new
       (λ past. HasCome b.ledger reports entry past progress
       (desk_of b c w old before had) (desk_of b c w new after holds) new result)
 
-  -- True if the next line of the input was processed. If the line is bad, its message was printed
+  -- True if the next line of the input was processed, or the line is bad, its message was printed,
   -- and the command ends.
   abbrev pub EntersNext : Reporting → (caller : Option (List ℕ)) → Line → Progress
       → (old new : Office B) → (before after : C) → (had holds : W) → Result Progress ExitStatus

@@ -1,7 +1,7 @@
--- The progress of entering an input: the outcome and the text of each line, and the state of the
--- office (the event engine) after it.
+-- The progress of processing an input: the outcome and the text of each line, and the state of the
+-- office (the event engine) after each line.
 --
--- Lists of processed lines have the latest line first.
+-- All lists of processed lines have the latest line first.
 use Rattle.std.specs.Prelude.{◌≡◌, ◌⊎◌, ◌||◌, ℕ, max, true, false, List, [], ◌∷◌, ◌++◌, codes, Option, Some, None, Result, Ok, Err, IfOk, is_err}
 use Rattle.std.specs.Fmt.{decimal}
 use Rattle.std.specs.List.{flat_map}
@@ -39,14 +39,14 @@ use Rattle.office_program.specs.Entering.Doubts.{doubt_in, doubt_of}
 use Rattle.office_program.specs.Entering.Lines.{IsBad, IsEntry, MayAsk, Reporting}
 use Rattle.office_program.specs.Entering.Reading.{AsksShown, IsShownFor}
 
--- The outcome of one input line, with its text and its timestamp.
+-- The next definitions give the outcome of one input line, its printed text and its timestamp.
 
 -- The outcome of an input line that is not bad. `Asked`: its request was fed to the event engine
 -- and answered. Otherwise no request was fed:
 --
 -- - `Faulty`: the line's point list has faulty rows;
--- - `Doubted`: the line's entry by hand would record more energy than the meter's power limit
---   allows, namely `mwh`;
+-- - `Doubted`: the line's entry by hand would record the energy `mwh`, which is more than the
+--   meter's power limit allows;
 -- - `Undecided`: the engine could not answer a query that the line needs, because of a failure;
 -- - `Unread`: the meter's counter can't be read.
 pub data Came : Type 0 where
@@ -56,7 +56,7 @@ pub data Came : Type 0 where
   Undecided : (at : ℕ) → Request → Refusal → Came
   Unread : (at : ℕ) → ReadRequest → Came
 
--- True if the outcome may occur for an input line with the parsed form `e`.
+-- True if the outcome is possible for an input line with the parsed form `e`.
 abbrev pub IsCameOf : Entry → Came → Type 0
 IsCameOf e (Asked one) =
     (request : Request) × MayAsk e request × (one.event ≡ event.Asked request)
@@ -66,8 +66,8 @@ IsCameOf (entry.Faulty rows) (Faulty reported) = reported ≡ rows
 IsCameOf (entry.Read read) (Unread at tried) = tried ≡ read
 IsCameOf _ _ = ⊥
 
--- True if the request has the present reading of the meter's counter, provided that the line
--- installs the meter at its present reading (`@read`).
+-- States that if the line installs a meter at its present reading (`@read`), then the request has
+-- this reading of the meter's counter. States nothing for other lines.
 --
 -- The accounting register and its device are those in the store's records.
 abbrev pub IsShown : Reporting → List Fact → Entry → Came → Type 0
@@ -78,8 +78,8 @@ IsShown reports facts (entry.Read read) (Doubted at request mwh) =
 IsShown reports facts (entry.Read read) (Unread at tried) = IsShownFor reports facts read None
 IsShown reports facts _ _ = Unit {0}
 
--- True if the input line has a parsed form that may have the outcome `came`, when the event engine
--- has accepted the events `past`.
+-- True if the input line has a parsed form for which the outcome `came` is possible, when the event
+-- engine has accepted the events `past`.
 pub record Comes (reports : Reporting) (caller : Option (List ℕ)) (past : History) (text : List ℕ)
     (came : Came) : Type 0 where
   pub entry : Entry
@@ -104,8 +104,8 @@ pub record IsAskedAndAnswered (past : History) (before after : Failures) (one : 
 -- the line.
 --
 -- A request has the defined answer or was refused because of a failure. An entry that is reported
--- as doubted needs a confirmation. An undecided line had a failure. The failure counts change
--- accordingly.
+-- as doubted needs a confirmation. An undecided line is one for which a query failed. The failure
+-- counts change accordingly.
 abbrev pub IsCameAnswered : History → (before after : Failures) → Came → Type 0
 IsCameAnswered past before after (Asked one) = IsAskedAndAnswered past before after one
 IsCameAnswered past before after (Faulty rows) = after ≡ before
@@ -114,8 +114,8 @@ IsCameAnswered past before after (Doubted at request mwh) =
 IsCameAnswered past before after (Undecided at request why) = IsOutside ⊥ before after why
 IsCameAnswered past before after (Unread at read) = after ≡ before
 
--- The text that reports the event engine's answer to an event, as in a script. It has the
--- notifications and `ok`, or the number of the refusal.
+-- The text that reports the event engine's answer to an event, as in a script: the notifications
+-- and `ok`, or `refused N` with the numeric code of the refusal.
 abbrev pub reply_text : History → (at : ℕ) → Event → Result Answer Refusal → List ℕ
 reply_text past at e (Ok given) =
     accepted_text given (notes_after past at e (Ok given)) (outgoing_after past at e (Ok given))
@@ -169,7 +169,8 @@ progress_after progress (Undecided at request why) = record { latest = at; refus
 progress_after progress (Unread at read) = record { latest = at; refused = true }
 
 -- True if the event engine processed the input line with the outcome `came`. The outcome determines
--- the events that the engine has accepted, its answer, the failure counts and the timestamp.
+-- the events that the engine has accepted, the engine's answer, the failure counts and the
+-- timestamp.
 pub record Takes {B : Type 0} (ledger : B → Ledger) (past : History) (latest : ℕ)
     (begun now : RoundState) (office : Office B) (came : Came) : Type 0 where
   pub stands : Stands ledger (with_came past came) office
@@ -185,8 +186,8 @@ pub record TakesLine {B E : Type 0} (ledger : B → Ledger) (past : History) (pr
     pub text : GotText result (came_text past came) begun.printed now.printed
     pub next : IfOk result (λ next. next ≡ progress_after progress came)
 
--- True if the input line made no request. Then the event engine, the clock and the failure counts
--- are unchanged.
+-- True if the event engine, the clock and the failure counts are unchanged, because the input line
+-- made no request.
 pub record IsUntouched {B : Type 0} (begun now : RoundState) (old new : Office B) : Type 0 where
   pub office : new ≡ old
   pub moments : now.moments ≡ begun.moments
@@ -211,7 +212,8 @@ EntersLine ledger reports caller line past progress begun now old new (Err Faile
     × GotPart (bad_line line.number) begun.printed now.printed)
     ⊎ (IsUntouched begun now old new × Appends begun.printed now.printed [])
 
--- The outcomes of several input lines, with the latest line first.
+-- The next definitions give the outcomes of several input lines. The lists have the latest line
+-- first.
 
 -- A processed input line with its outcome.
 pub record Taken : Type 0 where
@@ -229,8 +231,8 @@ abbrev pub history_with : History → List Taken → History
 history_with past [] = past
 history_with past (one ∷ earlier) = with_came (history_with past earlier) one.came
 
--- True if each input line in the list has an outcome that may occur for its parsed form, after the
--- earlier lines.
+-- True if the outcome of each input line in the list is possible for the line's parsed form, after
+-- the earlier lines.
 abbrev pub AreComing : Reporting → (caller : Option (List ℕ)) → History → List Taken → Type 0
 AreComing reports caller past [] = Unit {0}
 AreComing reports caller past (one ∷ earlier) =

@@ -1,8 +1,8 @@
--- The manual entries that need a confirmation, because their energy is more than the meter's
--- ceiling (its greatest power) allows since its last entry.
+-- The manual entries that need a confirmation: their energy exceeds what the meter's ceiling (its
+-- greatest power) allows in the time since its last entry.
 --
--- A manual entry can't be cancelled later. So such an entry is recorded only if its input line ends
--- with the mark ` !`.
+-- A manual entry can't be cancelled later. So an entry that needs a confirmation is recorded only
+-- if its input line ends with the mark ` !`.
 use Rattle.std.specs.Prelude.{◌≡◌, ◌⊎◌, ℕ, ◌-◌, ◌*◌, nat_lt, nat_le, Bool, not, ◌&&◌, List, Option, Some, None, is_some, Result, Ok, if◌then◌else◌}
 use Rattle.std.specs.Option.{option_and_then}
 use Rattle.energy_core.specs.Account.{moment_of, reached}
@@ -28,15 +28,15 @@ use Rattle.office_core.specs.Taking.{failures_of}
 use Rattle.office_core.specs.declared.office.Office.{Office}
 use Rattle.office_program.specs.Entering.Marks.{is_marked}
 
--- A meter's manual entry that needs a confirmation. `up_to` is the value that a counter without
--- rollovers would have at the time of the entry.
+-- The next definitions say whether a meter's manual entry needs a confirmation. `up_to` is the
+-- value that a counter without rollovers would have at the time of the entry.
 
 -- True if the entry is later than the meter's last entry, and does not decrease the counter.
 abbrev pub goes_on : Installation → (moment up_to : ℕ) → Bool
 goes_on row moment up_to = nat_lt row.last.at moment && nat_le row.last.raw up_to
 
--- True if a load at the meter's ceiling (its greatest power) can advance the counter to `up_to`
--- since the last entry. The same rule rejects a meter's reading as too fast.
+-- True if a load at the meter's ceiling (its greatest power) can advance the counter to `up_to` in
+-- the time since the last entry. The same rule rejects a meter's reading as too fast.
 abbrev pub is_within_ceiling : Installation → (moment up_to : ℕ) → Bool
 is_within_ceiling row moment up_to =
     can_count row.opening.ceiling (unit_of row.last.sf) (moment - row.last.at)
@@ -57,20 +57,20 @@ doubted_up_to row moment up_to =
     then Some (energy_by row up_to)
     else None
 
--- The energy in mWh that a manual entry would record at the meter `row`. `None` if the entry needs
--- no confirmation.
+-- The energy in mWh that the manual entry would record for the meter `row`, if the entry needs a
+-- confirmation. Otherwise `None`.
 abbrev pub doubted_by : Installation → Entry → Option ℕ
 doubted_by row e = doubted_up_to row (moment_of e) (reached row.opening.range e)
 
--- The manual entry in a request that needs a confirmation.
+-- The next definitions say whether the manual entry in a request needs a confirmation.
 
 -- The energy in mWh that the command's entry would record at the meter, if the entry needs a
--- confirmation. `None` if it needs none, or the command makes no entry.
+-- confirmation. `None` if the entry needs no confirmation, or the command makes no entry.
 abbrev pub doubted_at : (at : ℕ) → Command → Installation → Option ℕ
 doubted_at at c row = option_and_then (λ made. doubted_by row made.entry) (made_by at row.last c)
 
--- The energy in mWh that the command's entry would record at the register's open meter (the one
--- that is not closed). `None` if the entry needs no confirmation.
+-- The energy in mWh that the command's entry would record for the accounting register's open meter
+-- (the meter that is not closed). `None` if the entry needs no confirmation.
 abbrev pub doubted_in : List Fact → (at : ℕ) → Command → (register : Option (List ℕ)) → Option ℕ
 doubted_in facts at c register =
     option_and_then (doubted_at at c) (option_and_then (open_at facts) register)
@@ -97,7 +97,8 @@ abbrev pub doubt_in : List Fact → (at : ℕ) → Event → Option ℕ
 doubt_in facts at (event.Asked asked) = doubt_of facts at asked
 doubt_in facts at _ = None
 
--- The event engine's answer to the query whether an entry needs a confirmation.
+-- The next definitions give the event engine's answer to the query whether a manual entry needs a
+-- confirmation.
 
 -- True if the event engine answered whether an entry needs a confirmation, or refused the query
 -- because of a failure. Its accepted events are still `past`, since a query records nothing.

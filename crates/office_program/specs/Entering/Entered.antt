@@ -37,7 +37,7 @@ pub record IsStopped (reports : Reporting) (lines : List Line) (taken : List Tak
   pub follow : lines ≡ lines_with taken (line ∷ rest)
   pub bad : IsBad reports line.text
 
--- The text that is printed if a bad line ends the command. It is the text of the processed lines,
+-- The text that is printed if a bad line ends the command: the text of the processed lines,
 -- followed by the message for the bad line.
 abbrev pub stopped_text : {reports : Reporting} {lines : List Line} {taken : List Taken} → History
     → IsStopped reports lines taken → List ℕ
@@ -80,8 +80,8 @@ IsEnd reports lines past first taken status had holds =
     ⊎ IsStoppedReported reports lines past taken status had holds
     ⊎ IsBrokenOff reports lines past taken status had holds
 
--- The state after the lines were entered into an event engine that had accepted the events `past`.
--- No line has a timestamp before `first`.
+-- The state after the input lines were processed by an event engine that had accepted the events
+-- `past`. `first` is the earliest possible timestamp of a line.
 pub record EntersLines {B : Type 0} (ledger : B → Ledger) (reports : Reporting)
     (caller : Option (List ℕ)) (lines : List Line) (first : ℕ) (begun now : RoundState)
     (office : Office B) (status : ExitStatus) (past : History) : Type 0 where
@@ -108,8 +108,8 @@ Enters ledger reports caller text later had holds status following since opened 
     (round_state had since (failures_of ledger opened))
     (round_state holds later (failures_of ledger left)) left status following
 
--- True if the event engine was opened and the input was entered. If opening the engine was refused,
--- only the refusal was printed.
+-- True if the event engine was opened and the input was entered. Also true if opening the engine
+-- was refused and only the refusal was printed.
 abbrev pub ReportsEntering : {B : Type 0} → (B → Ledger) → (past : History) → Reporting
     → (caller text : List ℕ) → (moments later : Option (List ℕ)) → (books back : B)
     → (had holds : Option (List ℕ)) → ExitStatus → Type 0

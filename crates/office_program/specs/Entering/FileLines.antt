@@ -25,7 +25,7 @@ IsFileLine words line = Spell words (file_form line)
 abbrev pub IsNoFileLine : (words : List (List ℕ)) → Type 0
 IsNoFileLine words = (line : FileLine) → IsFileLine words line → ⊥
 
--- The parser of an input line that names a file, as a function of the words from left to right.
+-- The next definitions parse an input line that names a file, from its words.
 
 -- The input line that the parser returned, with the file's name as bytes.
 abbrev pub seen_line : declared.FileLine → FileLine

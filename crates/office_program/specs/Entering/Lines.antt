@@ -32,20 +32,20 @@ use Rattle.office_program.specs.Entering.FileLines.{FileLine, IsFileLine, IsNoFi
 use Rattle.office_program.specs.Entering.Marks.{is_marked, unmarked}
 use Rattle.office_program.specs.Entering.ReadLines.{IsNoRead, IsRead, asked_at}
 
--- The possible results of reading files and counters. A file gives its bytes or `None`, and a
--- register's counter gives its reading or `None`.
+-- The possible results of reading files and counters: for a file its bytes or `None`, and for an
+-- accounting register's counter its reading or `None`.
 pub record Reporting : Type 1 where
   pub files : List ℕ → Option (List ℕ) → Type 0
   pub counters : Device → Register → Option Shown → Type 0
 
 -- The possible results of reading files and counters, for an implementation of the trait
--- `Surroundings`.
+-- `NamedFiles`.
 abbrev pub reporting_of : {F : Type 0} → surroundings.Ghosts F → F → Reporting
 reporting_of f files = record { files = f.reports files; counters = f.shows files }
 
--- The request in a line of a script.
+-- The request in a line of a script. The line has the request's number instead of a timestamp.
 
--- True if an input line can request the command. Only commands that start polls can't be requested.
+-- True if the command is allowed in an input line. Only commands that start polls are not allowed.
 abbrev pub is_request : Command → Bool
 is_request (command.StartPoll c) = false
 is_request (command.StartRound c) = false
@@ -60,25 +60,25 @@ is_by_hand (command.Manual c) = true
 is_by_hand (command.Close c) = true
 is_by_hand _ = false
 
--- True if an input line can request the command. The mark ` !` confirms an entry by hand, so a line
--- with the mark can request only such an entry.
+-- True if the command is allowed in an input line. The mark ` !` confirms an entry by hand, so only
+-- such an entry is allowed in a line with the mark.
 abbrev pub can_be_asked : (marked : Bool) → Command → Bool
 can_be_asked marked c = if marked then is_by_hand c else is_request c
 
--- The request in a line with this command. It is the command with the request's number, or
--- `Nothing` if the line can't request the command.
+-- The request in a line with this command: the command with the request's number, or `Nothing` if
+-- the command is not allowed in the line.
 abbrev pub wanted_by : (marked : Bool) → (number : ℕ) → Command → Wanted
 wanted_by marked number c =
     if can_be_asked marked c then wanted.Command number c else wanted.Nothing
 
--- The request in a line with this event. It is the event's command, or `Nothing` for an event of a
+-- The request in a line with this event: the event's command, or `Nothing` for an event of a
 -- device.
 abbrev pub wanted_of : (marked : Bool) → (number : ℕ) → Event → Wanted
 wanted_of marked number (event.Command c) = wanted_by marked number c
 wanted_of marked number _ = wanted.Nothing
 
--- The request in a line with a point list. It is the list, or `Nothing` if the line has the mark `
--- !`, which only an entry by hand may have.
+-- The request in a line with a point list. The request is the list, or `Nothing` if the line has
+-- the mark ` !`, which only an entry by hand can have.
 abbrev pub wanted_list : (marked : Bool) → (number : ℕ) → GivenList → Wanted
 wanted_list marked number list = if marked then wanted.Nothing else wanted.List number list
 
@@ -88,15 +88,17 @@ wanted_in marked (line.Event number e) = wanted_of marked number e
 wanted_in marked (line.List number list) = wanted_list marked number list
 wanted_in marked _ = wanted.Nothing
 
--- The parsed form of an input line.
+-- The next definitions give the parsed form of an input line: a request, a request that needs a
+-- counter's reading, or faulty rows.
 
--- The request for this command, with the bytes of the request that the store keeps.
+-- The request for this command, with the caller, the number, and the bytes of the request that the
+-- store keeps.
 abbrev pub asked_by : (caller : Option (List ℕ)) → (number : ℕ) → (request : List ℕ) → Command
     → Asked
 asked_by caller number request c =
     record { caller = caller; number = number; request = request; command = c }
 
--- True if the text is parsed as this point list, and the plan has the reads for its points.
+-- True if the text spells this point list, and the list's plan has the Modbus reads for its points.
 pub record IsListOf (text : List ℕ) (list : Planned) : Type 0 where
   pub points : SpellsList text list.points
   pub planned : IsPlanned list
@@ -105,8 +107,8 @@ pub record IsListOf (text : List ℕ) (list : Planned) : Type 0 where
 abbrev pub append_by : (device : Option (List ℕ)) → Planned → Command
 append_by device list = command.PutList (record { device = device; list = list })
 
--- True for the parsed form of a line with a point list. It is a request for the list that `text`
--- spells, or the faulty rows of `text`.
+-- True if the entry is the parsed form of a line with the point list `text`: a request for this
+-- list, or the list's faulty rows.
 abbrev pub IsListEntry : (caller : Option (List ℕ)) → (number : ℕ) → (device : Option (List ℕ))
     → (text request : List ℕ) → Entry → Type 0
 IsListEntry caller number device text request (Ask asked) =
@@ -125,18 +127,19 @@ IsWantedEntry caller text (wanted.List number list) entry =
     IsListEntry caller number list.device list.text text entry
 IsWantedEntry caller text wanted.Nothing entry = ⊥
 
--- True for the parsed form of an input line that is a line of a script.
+-- True if `entry` is the parsed form of an input line that is a line of a script.
 pub record IsScriptEntry (caller : Option (List ℕ)) (text : List ℕ) (entry : Entry) : Type 0 where
   pub said : ScriptLine
   pub is : IsOnly (words_of (unmarked text)) said
   pub comes : IsWantedEntry caller text (wanted_in (is_marked text) said) entry
 
--- The bytes that the store keeps for an input line that names a file. They are the line, a line
--- feed (10), and the bytes of the file.
+-- The bytes that the store keeps for an input line that names a file: the line, a line feed (10),
+-- and the bytes of the file.
 abbrev pub file_request : (text bytes : List ℕ) → List ℕ
 file_request text bytes = text ++ 10 ∷ bytes
 
--- True for the parsed form of a line that names the file of a point list, when the file exists.
+-- True if the line names the file of a point list, the file exists, and `entry` is the parsed form
+-- of the line.
 pub record IsFileEntry (reports : Reporting) (caller : Option (List ℕ)) (text : List ℕ) (entry : Entry)
     : Type 0 where
   pub line : FileLine
@@ -145,23 +148,24 @@ pub record IsFileEntry (reports : Reporting) (caller : Option (List ℕ)) (text 
   pub reported : reports.files line.name (Some bytes)
   pub comes : IsListEntry caller line.number line.device bytes (file_request text bytes) entry
 
--- True for the parsed form of a line with `@read`, a placeholder for the counter's present reading.
--- The store keeps the line's own bytes, so that a retry matches at any reading.
+-- True if `entry` is the parsed form of a line with `@read`, a placeholder for the counter's
+-- present reading. The store keeps the line without the reading, so that a retry matches at any
+-- reading.
 pub record IsReadEntry (caller : Option (List ℕ)) (text : List ℕ) (entry : Entry) : Type 0 where
   pub line : ReadLine
   pub is : IsRead text line
   pub comes : entry ≡ Read (record { caller = caller; request = text; line = line })
 
--- True for the parsed form of an input line. The line names a file, has `@read`, or is a line of a
--- script.
+-- True if the entry is the parsed form of the input line, which names a file, has `@read`, or is a
+-- line of a script.
 abbrev pub IsEntry : Reporting → (caller : Option (List ℕ)) → (text : List ℕ) → Entry → Type 0
 IsEntry reports caller text entry =
     IsFileEntry reports caller text entry
     ⊎ (IsNoFileLine (words_of text)
     × (IsReadEntry caller text entry ⊎ (IsNoRead text × IsScriptEntry caller text entry)))
 
--- True if a parsed line may make this request. A line with `@read` makes one request, whose reading
--- is known only after the counter is read. So any reading is allowed.
+-- True if a parsed line can make this request. A line with `@read` makes one request with the
+-- reading of a counter. Any reading is allowed here, because the counter is read later.
 abbrev pub MayAsk : Entry → Asked → Type 0
 MayAsk (Ask asked) request = request ≡ asked
 MayAsk (Read read) request = (raw : ℕ) × (sf : ℤ) × (request ≡ asked_at read raw sf)
@@ -183,18 +187,19 @@ abbrev pub IsBad : Reporting → (text : List ℕ) → Type 0
 IsBad reports text =
     LacksFile reports text ⊎ (IsNoFileLine (words_of text) × IsNoRead text × IsNoRequest text)
 
--- The result of parsing an input line. If memory runs out, nothing is claimed about the line.
+-- The next definitions give the result of parsing an input line. They state nothing about the line
+-- if memory ran out.
 
--- True if an `Ok` result is the parsed form of the script's line, and the result `Bad` means that
--- the line requests nothing. If memory ran out, nothing is claimed about the line.
+-- States that an `Ok` result is the parsed form of the script's line, and that the line has no
+-- request if the result is `Bad`. States nothing if memory ran out.
 abbrev pub ReadsWanted : (caller : Option (List ℕ)) → (text : List ℕ) → Wanted
     → Result Entry LineFault → Type 0
 ReadsWanted caller text want (Ok entry) = IsWantedEntry caller text want entry
 ReadsWanted caller text want (Err Bad) = want ≡ wanted.Nothing
 ReadsWanted caller text want (Err Memory) = Unit {0}
 
--- True if an `Ok` result is the parsed form of the line with the point list `text`. The result is
--- never `Bad`.
+-- States that an `Ok` result is the parsed form of the line with the point list `text`, and that
+-- the result is not `Bad`.
 abbrev pub ReadsList : (caller : Option (List ℕ)) → (number : ℕ) → (device : Option (List ℕ))
     → (text request : List ℕ) → Result Entry LineFault → Type 0
 ReadsList caller number device text request (Ok entry) =
@@ -202,15 +207,16 @@ ReadsList caller number device text request (Ok entry) =
 ReadsList caller number device text request (Err Bad) = ⊥
 ReadsList caller number device text request (Err Memory) = Unit {0}
 
--- True if an `Ok` result is the parsed form of the script's line, and the result `Bad` means that
--- the line makes no request.
+-- States that an `Ok` result is the parsed form of the script's line, and that the line makes no
+-- request if the result is `Bad`.
 abbrev pub ReadsScript : (caller : Option (List ℕ)) → (text : List ℕ) → Result Entry LineFault
     → Type 0
 ReadsScript caller text (Ok entry) = IsScriptEntry caller text entry
 ReadsScript caller text (Err Bad) = IsNoRequest text
 ReadsScript caller text (Err Memory) = Unit {0}
 
--- True if an `Ok` result is the parsed form of the line with `@read`. The result is never `Bad`.
+-- States that an `Ok` result is the parsed form of the line with `@read` (the reading's
+-- placeholder), and that the result is not `Bad`.
 abbrev pub ReadsCounter : (caller : Option (List ℕ)) → (text : List ℕ) → ReadLine
     → Result Entry LineFault → Type 0
 ReadsCounter caller text line (Ok entry) =
@@ -218,8 +224,8 @@ ReadsCounter caller text line (Ok entry) =
 ReadsCounter caller text line (Err Bad) = ⊥
 ReadsCounter caller text line (Err Memory) = Unit {0}
 
--- True if an `Ok` result is the parsed form of a line that names no file. The result `Bad` means
--- that the line has no `@read` and is no request of a script.
+-- States that an `Ok` result is the parsed form of a line that names no file. If the result is
+-- `Bad`, the line has no `@read` and makes no request of a script.
 abbrev pub ReadsUnnamed : (caller : Option (List ℕ)) → (text : List ℕ) → Result Entry LineFault
     → Type 0
 ReadsUnnamed caller text (Ok entry) =
@@ -227,8 +233,8 @@ ReadsUnnamed caller text (Ok entry) =
 ReadsUnnamed caller text (Err Bad) = IsNoRead text × IsNoRequest text
 ReadsUnnamed caller text (Err Memory) = Unit {0}
 
--- True if an `Ok` result is the parsed form of a line that names a file, and the result `Bad` means
--- that the file does not exist.
+-- States that an `Ok` result is the parsed form of a line that names a file. If the result is
+-- `Bad`, the file does not exist.
 abbrev pub ReadsFile : Reporting → (caller : Option (List ℕ)) → (text : List ℕ) → FileLine
     → Result Entry LineFault → Type 0
 ReadsFile reports caller text named (Ok entry) =
@@ -237,8 +243,8 @@ ReadsFile reports caller text named (Ok entry) =
 ReadsFile reports caller text named (Err Bad) = reports.files named.name None
 ReadsFile reports caller text named (Err Memory) = Unit {0}
 
--- True if an `Ok` result is the parsed form of the line, and the result `Bad` means that the line
--- is bad. If memory ran out, nothing is claimed about the line.
+-- States that an `Ok` result is the parsed form of the line, and that the line is bad if the result
+-- is `Bad`. States nothing if memory ran out.
 abbrev pub ReadsEntry : Reporting → (caller : Option (List ℕ)) → (text : List ℕ)
     → Result Entry LineFault → Type 0
 ReadsEntry reports caller text (Ok entry) = IsEntry reports caller text entry

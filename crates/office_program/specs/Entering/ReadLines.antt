@@ -32,7 +32,8 @@ IsReadLine words line = Spell words (read_form line)
 abbrev pub IsNoReadLine : (words : List (List ℕ)) → Type 0
 IsNoReadLine words = (line : ReadLine) → IsReadLine words line → ⊥
 
--- The number, register and command of a line with `@read`, a placeholder for the counter's reading.
+-- The next definitions give the request's number, the accounting register and the command of a line
+-- with `@read`, a placeholder for the counter's reading.
 
 -- The number of the request in an input line with `@read`.
 abbrev pub number_of : ReadLine → ℕ
@@ -78,11 +79,12 @@ asked_at read raw sf = record {
   command = command_at read.line raw sf;
 }
 
--- The text of an input line with `@read`. A manual entry may end with the mark ` !`, which confirms
--- the entry.
+-- The next definitions say which text is an input line with `@read`. A line that makes a manual
+-- entry may end with the mark ` !`, which confirms the entry.
 
--- True if the line may end with or without the mark ` !` (a confirmation), as `marked` says. An
--- installation needs no confirmation. An exchange may need one, because it makes an entry by hand.
+-- False if the line has the mark ` !` (`marked`) and installs a meter. The mark confirms an entry
+-- by hand, and an installation makes none. True otherwise: an exchange makes an entry by hand, the
+-- last reading of the old meter.
 abbrev pub may_end : (marked : Bool) → ReadLine → Bool
 may_end marked (read.Install number register meter ceiling range) = not marked
 may_end marked (read.Exchange number register last rolls meter ceiling range) = true
@@ -97,7 +99,8 @@ pub record IsRead (text : List ℕ) (line : ReadLine) : Type 0 where
 abbrev pub IsNoRead : (text : List ℕ) → Type 0
 IsNoRead text = (line : ReadLine) → IsRead text line → ⊥
 
--- The parser of a line with `@read` as a function of the words, from left to right.
+-- The next definitions parse an input line with `@read` (a placeholder for the counter's reading)
+-- from its words.
 
 -- The words after the first word, if the first word is `@read`. Otherwise `None`.
 abbrev pub read_word : List (List ℕ) → Option (List (List ℕ))

@@ -29,8 +29,8 @@ use Rattle.office_program.specs.Entering.ReadLines.{asked_at}
 abbrev pub repeat_of_read : List Fact → ReadRequest → Option Repeat
 repeat_of_read facts read = repeat_in facts (asked_at read 0 (pos 0))
 
--- True if the counter of the accounting register was read from its device, with this result. The
--- result is `None` if the device gave no reading.
+-- True if the counter of the accounting register was read from its device, with the result `shown`.
+-- `None` means that the device gave no reading.
 pub record IsCounterReported (reports : Reporting) (facts : List Fact) (register : Option (List ℕ))
     (shown : Option Shown) : Type 0 where
   pub counter : Register
@@ -39,25 +39,25 @@ pub record IsCounterReported (reports : Reporting) (facts : List Fact) (register
   pub device_is : device_of facts counter.device ≡ Some device
   pub reported : reports.counters device counter shown
 
--- True if the device of the accounting register does not exist. Then the register's counter can't
--- be read.
+-- True if the store has the accounting register, but not the register's device. Then the register's
+-- counter can't be read.
 pub record LacksDevice (facts : List Fact) (register : Option (List ℕ)) : Type 0 where
   pub counter : Register
   pub register_is : option_and_then (register_of facts) register ≡ Some counter
   pub none : device_of facts counter.device ≡ None
 
--- True if the counter can't be read, because the register or its device does not exist or the
--- device gave no reading.
+-- True if the counter can't be read, because the accounting register or its device does not exist
+-- or the device gave no reading.
 abbrev pub IsNotShown : Reporting → List Fact → (register : Option (List ℕ)) → Type 0
 IsNotShown reports facts register =
     (option_and_then (register_of facts) register ≡ None) ⊎ LacksDevice facts register
     ⊎ IsCounterReported reports facts register None
 
--- True if `Some` has the reading at which the line installs its meter, or if the counter can't be
--- read and the result is `None`.
+-- True if the result is possible for the line: `Some` with the reading at which the line installs
+-- its meter, or `None` if the counter can't be read.
 --
--- If the store already has the request, the counter need not be read. Otherwise the reading is that
--- of the register's counter.
+-- If the store already has the request, any reading is possible, because the counter is not read.
+-- Otherwise the reading is that of the accounting register's counter.
 abbrev pub IsShownFor : Reporting → List Fact → ReadRequest → Option Shown → Type 0
 IsShownFor reports facts read (Some shown) =
     (is_some (repeat_of_read facts read) ≡ true)
@@ -71,10 +71,10 @@ AsksShown reports facts read request =
     (shown : Shown) × IsShownFor reports facts read (Some shown)
     × (request ≡ asked_at read shown.raw shown.sf)
 
--- The event engine's answer to the query for the counter's reading.
+-- The next definitions give the event engine's answer to the query for a counter's reading.
 
--- True if the office (the event engine) found the reading, or found that there is none, and the
--- store did not fail. Also true if the engine refused the query because of a failure.
+-- States that on `Ok` the office (the event engine) found the reading or found that there is none.
+-- On an error, the engine refused the query because of a failure.
 abbrev pub HasShown : Reporting → List Fact → ReadRequest → (before after : Failures)
     → Result (Option Shown) Refusal → Type 0
 HasShown reports facts read before after (Ok found) =
@@ -96,15 +96,17 @@ abbrev pub Fills : {B : Type 0} → (B → Ledger) → Reporting → ReadRequest
 Fills ledger reports read old new result = After ledger old new (λ past.
     IsFilled ledger reports read past (failures_of ledger old) (failures_of ledger new) new result)
 
--- The register, the device and the reading of a counter, looked up one by one.
+-- The next definitions look up an accounting register, then its device, and then the reading of its
+-- counter.
 
--- True for the reading of the register's counter, or for `None` if the counter can't be read.
+-- True if the result is possible for the accounting register's counter: `Some` with the counter's
+-- reading, or `None` if the counter can't be read.
 abbrev pub IsCounterFor : Reporting → List Fact → (register : Option (List ℕ)) → Option Shown → Type 0
 IsCounterFor reports facts register (Some shown) = IsCounterReported reports facts register (Some shown)
 IsCounterFor reports facts register None = IsNotShown reports facts register
 
--- True if the event engine found the counter's reading, or found that there is none, and the store
--- did not fail. Also true if it refused the query because of a failure.
+-- States that on `Ok` the event engine found the counter's reading or found that there is none. On
+-- an error, the engine refused the query because of a failure.
 abbrev pub HasCounter : Reporting → List Fact → (register : Option (List ℕ))
     → (before after : Failures) → Result (Option Shown) Refusal → Type 0
 HasCounter reports facts register before after (Ok found) =
@@ -119,16 +121,16 @@ pub record IsReadThere {B : Type 0} (ledger : B → Ledger) (reports : Reporting
   pub stands : Stands ledger past office
   pub reported : HasCounter reports (facts_of past) register before after result
 
--- The contract of reading the counter of a register by its name. `IsReadThere` states the result,
--- whatever events the event engine accepted before.
+-- The contract of reading the counter of an accounting register by the register's name.
+-- `IsReadThere` states the result, whatever events the event engine accepted before.
 abbrev pub ReadsThere : {B : Type 0} → (B → Ledger) → Reporting → (register : Option (List ℕ))
     → (old new : Office B) → Result (Option Shown) Refusal → Type 0
 ReadsThere ledger reports register old new result = After ledger old new (λ past.
     IsReadThere ledger reports register past (failures_of ledger old) (failures_of ledger new) new
     result)
 
--- The contract of reading the counter of a register that was looked up. `IsReadThere` states the
--- result, for any name under which the store records this register.
+-- The contract of reading the counter of an accounting register that was already looked up by its
+-- name. `IsReadThere` states the result for this name.
 abbrev pub ReadsAt : {B : Type 0} → (B → Ledger) → Reporting → Register → (old new : Office B)
     → Result (Option Shown) Refusal → Type 0
 ReadsAt ledger reports counter old new result = (register : Option (List ℕ)) → After ledger old new

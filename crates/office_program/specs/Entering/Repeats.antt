@@ -1,6 +1,7 @@
 -- Retries of requests. The office (the event engine) stores the response to each accepted request.
 --
--- So a request acts once, and an input that is entered twice acts once.
+-- So a request that is retried is executed once, and so is each request of an input that is entered
+-- twice.
 use Rattle.std.specs.Prelude.{◌≡◌, ◌⊎◌, ℕ, List, [], ◌∷◌, ◌++◌, Option, Result, Ok, IsOk}
 use Rattle.command_io.specs.Lines.{Line}
 use Rattle.office_events.specs.declared.answers.Answer.{Answer}
@@ -23,16 +24,17 @@ pub record IsSameRequest (asked again : Asked) : Type 0 where
   pub number : again.number ≡ asked.number
   pub request : again.request ≡ asked.request
 
--- The theorem that if an accepted request is retried, then the retry is answered as done and does
--- not act again. The event engine may have accepted other events between the request and the retry.
+-- The theorem that if an accepted request is retried, then the retry is answered as executed
+-- earlier, and is not executed again. The event engine may have accepted other events between the
+-- request and the retry.
 abbrev pub RequestsAreRepeated : Type 0
 RequestsAreRepeated = (past more : History) (at then : ℕ) (asked again : Asked)
     → AreAccepted (more ++ Fed at (event.Asked asked) ∷ past) → IsSameRequest asked again
     → decision_of (more ++ Fed at (event.Asked asked) ∷ past) then (event.Asked again)
     ≡ Ok (answer.Again (kind_of asked.command))
 
--- True if each file has the same contents at every read. Theorems on retries need this, because a
--- line that names a file requests the file's contents.
+-- True if each file has the same contents at every read. Theorems on retries need this, because the
+-- contents of a named file are a part of the request.
 abbrev pub AreSteady : Reporting → Type 0
 AreSteady reports =
     (name : List ℕ) (a b : Option (List ℕ)) → reports.files name a → reports.files name b → a ≡ b
@@ -48,8 +50,9 @@ abbrev pub HaveActed : List Taken → Type 0
 HaveActed [] = Unit {0}
 HaveActed (one ∷ earlier) = HasActed one.came × HaveActed earlier
 
--- True for the answer to a retry: the request was done earlier, the store failed, or the event
--- engine had stopped after a failure. A retry never fails for lack of memory outside the store.
+-- True if the result is a possible answer to a retry: the request was executed earlier, the store
+-- failed, or the event engine had stopped after a failure. A retry never fails for lack of memory
+-- outside the store.
 abbrev pub IsRepeated : Result Answer Refusal → Type 0
 IsRepeated result =
     ((kind : CommandKind) × (result ≡ Ok (answer.Again kind)))
@@ -78,8 +81,8 @@ pub record HasEntered (reports : Reporting) (caller : Option (List ℕ)) (lines 
   pub answered : AreAnswered past before after taken
   pub acted : HaveActed taken
 
--- True if the first lines of the input are processed again later. The event engine may have
--- accepted other events after the input was entered first.
+-- True if the first lines of the input were processed a second time. The event engine may have
+-- accepted other events since the input was entered first.
 pub record EntersAgain (reports : Reporting) (caller : Option (List ℕ)) (lines : List Line)
     (following later : History) (again : List Taken) : Type 0 where
   pub more : History
@@ -92,10 +95,10 @@ pub record EntersAgain (reports : Reporting) (caller : Option (List ℕ)) (lines
   pub after : Failures
   pub answered : AreAnswered later before after again
 
--- True if the lines that are entered again have no effect.
+-- True if the lines that were entered a second time had no effect.
 --
--- The event engine accepts no new event, and each line is answered as a retry or refused because of
--- a failure.
+-- The event engine accepted no new event, and answered each line as a retry or refused it because
+-- of a failure.
 pub record ActsNoMore (later : History) (again : List Taken) : Type 0 where
   pub same : history_with later again ≡ later
   pub repeated : HaveRepeated again

@@ -26,15 +26,15 @@ pub record OpensToAsk {B : Type 0} (ledger : B → Ledger) (past : History)
   pub timed : clocks.ReportsMoment moments later reported
   pub stands : Stands ledger (Opened (asking_moment past reported) ∷ past) office
 
--- True if the event engine was opened for queries as `OpensToAsk` describes. This is promised only
--- if no wrong result of the store was used.
+-- States that the event engine was opened for queries as `OpensToAsk` describes. States nothing if
+-- a wrong result of the store was used.
 abbrev pub OpensToAskWhereClean : {B : Type 0} → (B → Ledger) → (past : History)
     → (moments later : Option (List ℕ)) → Office B → Type 0
 OpensToAskWhereClean ledger past moments later office =
     (ledger (books_in office)).is_clean → OpensToAsk ledger past moments later office
 
--- True if the event engine was not opened, because of the timestamp or a failure. The store is in
--- its state before the call, and the reason was printed.
+-- True if the event engine was not opened, because of the timestamp or a failure, the reason was
+-- printed, and the store is as before.
 pub record ReportsUnasked (past : History) (moments later : Option (List ℕ)) (old new : Ledger)
     (status : ExitStatus) (had holds : Option (List ℕ)) : Type 0 where
   pub reported : ℕ
@@ -43,8 +43,8 @@ pub record ReportsUnasked (past : History) (moments later : Option (List ℕ)) (
   pub refused : IsNotOpened past (asking_moment past reported) old new why
   pub printed : IsReported (refused_line why) Refused status had holds
 
--- True if the event engine was not opened and the reason was printed, as `ReportsUnasked`
--- describes. This is promised only if no wrong result of the store was used.
+-- States that the event engine was not opened and the reason was printed, as `ReportsUnasked`
+-- describes. States nothing if a wrong result of the store was used.
 abbrev pub ReportsUnaskedWhereClean : {B : Type 0} → (B → Ledger) → (past : History)
     → (moments later : Option (List ℕ)) → (books : B) → (had holds : Option (List ℕ))
     → Unopened B → Type 0
@@ -52,16 +52,16 @@ ReportsUnaskedWhereClean ledger past moments later books had holds unopened =
     (ledger unopened.books).is_clean → ReportsUnasked past moments later (ledger books)
     (ledger unopened.books) unopened.status had holds
 
--- True if on `Ok` the event engine was opened for queries, whatever accepted events the store
--- records.
+-- States that if the result is `Ok`, the event engine was opened for queries, whatever accepted
+-- events the store records.
 abbrev pub OpensToAskOver : {B C : Type 0} → stores.Ghosts B → a_clock.Ghosts C → (books : B)
     → (before after : C) → Result (Office B) (Unopened B) → Type 0
 OpensToAskOver b c books before after result =
     (past : History) → BooksStand (b.ledger books) past
     → IfOk result (OpensToAskWhereClean b.ledger past (c.moments before) (c.moments after))
 
--- True if on an error the event engine was not opened and the reason was printed, whatever accepted
--- events the store records.
+-- States that if the result is an error, the event engine was not opened and the reason was
+-- printed, whatever accepted events the store records.
 abbrev pub RefusesToAskOver : {B C W : Type 0} → stores.Ghosts B → a_clock.Ghosts C
     → writers.Ghosts W → (books : B) → (before after : C) → (had holds : W)
     → Result (Office B) (Unopened B) → Type 0

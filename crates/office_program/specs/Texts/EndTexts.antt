@@ -5,15 +5,15 @@ use Rattle.command_io.specs.declared.status.ExitStatus.{ExitStatus}
 use Rattle.command_io.specs.declared.status.ExitStatus.TheVariants.{Failed}
 use Rattle.sun_points.specs.Writing.{GotPart}
 
--- True if the text was printed and the exit status is `meant`. If a write failed, a part of the
--- text was printed, and the exit status is `Failed`.
+-- True if the text was printed and the exit status is `meant`. Also true if a write failed, a part
+-- of the text was printed, and the exit status is `Failed`.
 abbrev pub IsReported : (text : List ℕ) → (meant status : ExitStatus)
     → (old new : Option (List ℕ)) → Type 0
 IsReported text meant status old new =
     ((status ≡ meant) × Appends old new text) ⊎ ((status ≡ Failed) × GotPart text old new)
 
--- True if one of the texts that `Prints` allows was printed, with its exit status. If a write
--- failed, a part of the text was printed, with the exit status `Failed`.
+-- True if a text that `Prints` allows was printed, with its exit status. Also true if a write
+-- failed, a part of the text was printed, and the status is `Failed`.
 pub record ReportsEnd (Prints : List ℕ → ExitStatus → Type 0) (status : ExitStatus)
     (old new : Option (List ℕ)) : Type 0 where
   pub text : List ℕ

@@ -27,15 +27,15 @@ pub record Opens {B : Type 0} (ledger : B → Ledger) (past : History)
   pub timed : clocks.ReportsMoment moments later at
   pub stands : Stands ledger (Opened at ∷ past) office
 
--- True if the event engine was opened as `Opens` describes. This is promised only if no wrong
--- result of the store was used.
+-- States that the event engine was opened as `Opens` describes. States nothing if a wrong result of
+-- the store was used.
 abbrev pub OpensWhereClean : {B : Type 0} → (B → Ledger) → (past : History)
     → (moments later : Option (List ℕ)) → Office B → Type 0
 OpensWhereClean ledger past moments later office =
     (ledger (books_in office)).is_clean → Opens ledger past moments later office
 
--- True if the event engine was not opened, because of the timestamp or a failure. The store is in
--- its state before the call, and the reason was printed.
+-- True if the event engine was not opened, because of the timestamp or a failure, the reason was
+-- printed, and the store is as before.
 pub record ReportsUnopened (past : History) (moments later : Option (List ℕ)) (old new : Ledger)
     (status : ExitStatus)
     (had holds : Option (List ℕ)) : Type 0 where
@@ -45,8 +45,8 @@ pub record ReportsUnopened (past : History) (moments later : Option (List ℕ)) 
   pub refused : IsNotOpened past at old new why
   pub reported : IsReported (refused_line why) Refused status had holds
 
--- True if the event engine was not opened and the reason was printed, as `ReportsUnopened`
--- describes. This is promised only if no wrong result of the store was used.
+-- States that the event engine was not opened and the reason was printed, as `ReportsUnopened`
+-- describes. States nothing if a wrong result of the store was used.
 abbrev pub ReportsWhereClean : {B : Type 0} → (B → Ledger) → (past : History)
     → (moments later : Option (List ℕ)) → (books : B) → (had holds : Option (List ℕ))
     → Unopened B → Type 0
@@ -54,15 +54,16 @@ ReportsWhereClean ledger past moments later books had holds unopened =
     (ledger unopened.books).is_clean → ReportsUnopened past moments later (ledger books)
     (ledger unopened.books) unopened.status had holds
 
--- True if on `Ok` the event engine was opened, whatever accepted events the store records.
+-- States that if the result is `Ok`, the event engine was opened, whatever accepted events the
+-- store records.
 abbrev pub OpensOver : {B C : Type 0} → stores.Ghosts B → a_clock.Ghosts C → (books : B)
     → (before after : C) → Result (Office B) (Unopened B) → Type 0
 OpensOver b c books before after result =
     (past : History) → BooksStand (b.ledger books) past
     → IfOk result (OpensWhereClean b.ledger past (c.moments before) (c.moments after))
 
--- True if an error implies that the event engine was not opened and that the reason was printed.
--- The store may contain any accepted events.
+-- States that if the result is an error, the event engine was not opened and the reason was
+-- printed, whatever accepted events the store records.
 abbrev pub RefusesOver : {B C W : Type 0} → stores.Ghosts B → a_clock.Ghosts C → writers.Ghosts W
     → (books : B) → (before after : C) → (had holds : W) → Result (Office B) (Unopened B) → Type 0
 RefusesOver b c w books before after had holds result =
@@ -70,9 +71,9 @@ RefusesOver b c w books before after had holds result =
     → IfErr result (ReportsWhereClean b.ledger past (c.moments before) (c.moments after) books
     (w.contents had) (w.contents holds))
 
--- True if the time zone of the store is unchanged, whether the event engine is opened or not. If
--- the store is clean after the call (no wrong result of it was used), then it was clean before the
--- call.
+-- True if two conditions hold, whether the event engine was opened or not. The store's time zone is
+-- unchanged. A store that is clean after the call was clean before the call. A store is clean if no
+-- wrong result of the store was used.
 abbrev pub LastsInside : {B : Type 0} → (B → Ledger) → (books : B)
     → Result (Office B) (Unopened B) → Type 0
 LastsInside ledger books result = MatchResult result

@@ -3,8 +3,8 @@
 use Rattle.std.specs.Prelude.{◌≡◌}
 use Rattle.office_books.specs.Ledgers.{Ledger}
 
--- True if the time zone of the store is unchanged. If the store is clean after the call (no wrong
--- result of it was used), then it was clean before the call.
+-- True if the store's time zone is unchanged, and a store that is clean after the call was clean
+-- before the call. A store is clean if no wrong result of the store was used.
 pub record Lasts (old new : Ledger) : Type 0 where
   pub clean : new.is_clean → old.is_clean
   pub zone : new.zone ≡ old.zone

@@ -25,8 +25,8 @@ use Rattle.script_text.specs.AnswerText.{refused_line}
 use Rattle.office_program.specs.Texts.EndTexts.{IsReported, ReportsEnd}
 use Rattle.office_program.specs.Texts.Reports.{meant_by}
 
--- True for the text of a register's report on a range of days. The text has the days in the range,
--- by the clocks of the time zone, in the requested form.
+-- True if `text` is the text of an accounting register's report on a range of days. The text has
+-- the days in the range, as civil days of the time zone, in the requested form.
 --
 -- If the report is refused, the text consists of the refusal.
 abbrev pub IsRangedReport : Zone → History → (register : Option (List ℕ)) → ReportForm
@@ -37,10 +37,10 @@ IsRangedReport zone past register form (Ok done) text =
     × (text ≡ report_text form days)
 IsRangedReport zone past register form (Err why) text = text ≡ refused_line why
 
--- The text and the exit status of a register's report on a range of days.
+-- The text and the exit status of an accounting register's report on a range of days.
 --
--- The report is refused if no register has the name, and otherwise only because of a failure. Lack
--- of memory outside the store is a possible failure only if a register has the name.
+-- The report is refused if no accounting register has the name. If one has the name, the report is
+-- refused only because the store or memory failed, or the event engine has stopped.
 pub record RangePrints (zone : Zone) (past : History) (register : Option (List ℕ))
     (form : ReportForm) (before after : Failures) (text : List ℕ) (meant : ExitStatus) :
     Type 0 where
@@ -74,8 +74,8 @@ pub record PrintsLast {W : Type 0} (contents : W → Option (List ℕ)) (status 
   pub finishes : Finishes contents old new
   pub means : status ≡ (if new.failed then Failed else Fine)
 
--- True if the text after the report's last row was printed, or the refusal if the report was
--- refused.
+-- True if the text after the report's last row was printed, or if the report was refused and the
+-- refusal was printed.
 abbrev pub PrintsRest : {W : Type 0} → (W → Option (List ℕ)) → Result (Unit {0}) Refusal
     → ExitStatus → (old new : ReportRows W) → Type 0
 PrintsRest contents (Ok done) status old new = PrintsLast contents status old new

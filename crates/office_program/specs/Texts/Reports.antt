@@ -32,8 +32,8 @@ abbrev pub last_line : (count : ℕ) → Result (Unit {0}) Refusal → List ℕ
 last_line count (Ok done) = end_line count
 last_line count (Err why) = refused_line why
 
--- True for the text of a register's report. The text has all days of the register by the clocks of
--- the time zone, in order.
+-- True if `text` is the text of an accounting register's report. The text has all days of the
+-- register, as civil days of the time zone, in order.
 --
 -- If the report is refused, the text consists of the refusal.
 abbrev pub IsReport : Zone → History → (register : Option (List ℕ)) → Result (Unit {0}) Refusal
@@ -43,10 +43,10 @@ IsReport zone past register (Ok done) text =
     × (text ≡ days_text days)
 IsReport zone past register (Err why) text = text ≡ refused_line why
 
--- The text and the exit status of a register's report.
+-- The text and the exit status of an accounting register's report.
 --
--- The report is refused if no register has the name, and otherwise only because of a failure. Lack
--- of memory outside the store is a possible failure only if a register has the name.
+-- The report is refused if no accounting register has the name. If one has the name, the report is
+-- refused only because the store or memory failed, or the event engine has stopped.
 pub record ReportPrints (zone : Zone) (past : History) (register : Option (List ℕ))
     (before after : Failures)
     (text : List ℕ) (meant : ExitStatus) : Type 0 where
@@ -65,8 +65,8 @@ ReportsDays b w register old new had holds status = After b.ledger old new
     (failures_of b.ledger old) (failures_of b.ledger new))
     status (w.contents had) (w.contents holds))
 
--- True if the event engine was only queried, and answered or refused the query. Its accepted events
--- are unchanged.
+-- True if the command only queried the event engine, and the engine answered or refused the query.
+-- The engine's accepted events are unchanged.
 pub record Asks {B : Type 0} (ledger : B → Ledger) (old new : Office B) : Type 0 where
   pub reply : Result (Unit {0}) Refusal
   pub only : OnlyAsks ledger old new reply

@@ -34,8 +34,8 @@ IsRefusalReported (Err Link) result old new = (result ≡ Err Link) × (new ≡ 
 IsRefusalReported (Err Output) result old new = (result ≡ Err Output) × (new ≡ old)
 IsRefusalReported (Err TurnsUsed) result old new = (result ≡ Err TurnsUsed) × (new ≡ old)
 
--- The passage of a polling round, from its start state to its end state, before the final refusal
--- was printed. `printed` is the text that was printed until then.
+-- The known states at the start and the end of a polling round, as they were before the final
+-- refusal was printed. `printed` is the text that was printed until then.
 abbrev pub without_cause : Passage → (printed : Option (List ℕ)) → Passage
 without_cause through printed =
     passage through.begun

@@ -1,4 +1,4 @@
--- The statements of the meters at an accounting register, on a range of days. A statement has the
+-- The statements of the meters of an accounting register on a range of days. A statement has the
 -- numbers against which a bill is checked.
 use Rattle.std.specs.Prelude.{◌≡◌, ℕ, List, ◌++◌, map, filter, All, is_some, true, Option, Some, Result, Ok, Err}
 use Rattle.std.specs.Option.{option_map, option_and_then}
@@ -37,7 +37,8 @@ use Rattle.office_core.specs.declared.office.Office.{Office}
 use Rattle.script_text.specs.AnswerText.{refused_line}
 use Rattle.office_program.specs.Texts.EndTexts.{ReportsEnd}
 
--- The statement of one meter, against which its bill is checked.
+-- The next definitions give a meter's statement: the numbers against which the meter's bill is
+-- checked.
 
 -- The statement of a meter with this name and opening (the record that installs the meter). It has
 -- the meter's entries, its energy in mWh, and the counts of its rejected readings.
@@ -56,14 +57,14 @@ reported_of zone range facts meter opening = record {
 abbrev pub statement_of : Zone → DayRange → List Fact → (meter : List ℕ) → MeterStatement
 statement_of zone range facts meter = reported_of zone range facts meter (opening_of facts meter)
 
--- The statements (reports to check a bill) of the meters that were installed in the range of days,
--- in the order of installation.
+-- The statements (reports to check a bill) of the listed meters that were in place on a day of the
+-- range, in the same order.
 abbrev pub statements_of : Zone → DayRange → List Fact → List Installation → List MeterStatement
 statements_of zone range facts rows =
     map (λ row. statement_of zone range facts row.opening.meter)
     (filter (was_installed zone range) rows)
 
--- The event engine's answers to queries for one meter.
+-- The next definitions give the event engine's answers to queries for one meter.
 
 -- The tally (the first and last entry, and the corrections) of the meter's entries in the range of
 -- days. `None` if no meter has the name.
@@ -96,7 +97,8 @@ AnswersOf ledger old new result found = After ledger old new (λ past.
     IsFound (Unit {0}) (found (facts_of past)) (failures_of ledger old) (failures_of ledger new)
     result)
 
--- The statements of the meters at an accounting register.
+-- The next definitions give the statements of all meters of an accounting register that were in
+-- place in a range of days.
 
 -- True if the store's records have the installation of each meter in `rows`.
 abbrev pub AreRecorded : List Fact → List Installation → Type 0
@@ -120,8 +122,8 @@ States ledger zone range rows old new before after result = After ledger old new
     AreRecorded (facts_of past) rows → IsStated zone range (facts_of past) rows before after
     (failures_of ledger old) (failures_of ledger new) result)
 
--- The statements (reports to check a bill) of all meters at the register, or `None` if no register
--- has the name.
+-- The statements (reports to check a bill) of the accounting register's meters that were in place
+-- in the range of days. `None` if no accounting register has the name.
 abbrev pub statements_in : Zone → DayRange → List Fact → (register : Option (List ℕ))
     → Option (List MeterStatement)
 statements_in zone range facts register =
@@ -132,7 +134,7 @@ abbrev pub items_of : {T E : Type 0} → Result (Vec T Global) E → Result (Lis
 items_of (Ok rows) = Ok rows.items
 items_of (Err why) = Err why
 
--- The printed text of the statements.
+-- The next definitions give the printed text of the meters' statements (reports to check a bill).
 
 -- The text of the meters' statements (reports to check a bill), or only the refusal if the
 -- statements are refused.
@@ -147,7 +149,7 @@ meant_by (Ok rows) = Fine
 meant_by (Err why) = Refused
 
 -- The text and the exit status of the meters' statements (reports to check a bill). The statements
--- are refused if no register has the name, or because of a failure.
+-- are refused if no accounting register has the name, or because of a failure.
 pub record StatementPrints (zone : Zone) (past : History) (register : Option (List ℕ))
     (form : StatementForm) (before after : Failures) (text : List ℕ) (meant : ExitStatus)
     : Type 0 where

@@ -62,10 +62,10 @@ pub(crate) fn add(polls: &mut Polls, first: u64, count: u64)
     }
 }
 
-/// The numbers of a polling round's ended polls by outcome: answered, silent (timed out), or failed
+/// The counts of a polling round's ended polls by outcome: answered, silent (timed out), or failed
 /// otherwise.
 ///
-/// Each number saturates at 2^64 - 1.
+/// Each count saturates at 2^64 - 1.
 #[derive(Clone, Copy, PartialEq, Eq)]
 pub struct Sum {
     pub answered: u64,
@@ -77,7 +77,7 @@ impl Sum {
     ghost use Rattle.std.specs.Prelude.{◌≡◌};
     ghost use Rattle.office_program.specs.DeviceRounds.Sums as sums;
 
-    /// Creates the counts of a polling round without ended polls.
+    /// Creates the counts of a polling round that has no ended polls.
     pub fn none() -> Sum
         ensures { result ≡ sums.none }
     {
@@ -101,7 +101,7 @@ impl Sum {
         }
     }
 
-    // Counts the outcome that a notification reports, if its poll was pending.
+    // If the notification reports the outcome of one of the pending polls, counts this outcome.
     fn note(&mut self, polls: &Polls, note: &Note)
         ensures { self.new ≡ sums.noted polls.now.items note.now self.old }
     {
@@ -116,7 +116,7 @@ impl Sum {
         }
     }
 
-    /// Counts the outcomes that several notifications report.
+    /// Counts the outcomes of pending polls that several notifications report.
     pub(crate) fn note_all(&mut self, polls: &Polls, notes: &[Note])
         ensures { self.new ≡ sums.noted_all polls.now.items notes.now self.old }
     {

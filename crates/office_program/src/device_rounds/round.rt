@@ -6,7 +6,7 @@ use office_events::{Answer, Command, Event, Name, Note, Refusal, StartRound};
 use poll_core::Closing;
 
 /// The state of a device's polling round (one poll for each Modbus read of its plan). The event
-/// engine's answers and notifications determine it.
+/// engine's answers and notifications determine this state.
 #[derive(Drop)]
 pub struct Round {
     pub device: Option<Name>,
@@ -41,8 +41,8 @@ impl Round {
         }
     }
 
-    /// Returns the event that the polling round requests next. Returns `None` if the round waits
-    /// for responses, or its device is not connected.
+    /// Returns the event that the polling round generates next for the event engine. Returns `None`
+    /// if the round waits for responses, or its device is not connected.
     pub fn requested_event(&self) -> Option<Event>
         ensures { result ≡ rounds.wish_of self.now }
     {
@@ -73,15 +73,15 @@ impl Round {
     }
 
     /// Ends the polling round, because the connection to its device ended. If the office (the event
-    /// engine) processed the connection, the round requests the event `Gone` next.
+    /// engine) processed the event `Connected` before, the round generates the event `Gone` next.
     pub fn leave(&mut self, closing: Closing)
         ensures { self.new ≡ rounds.leaving closing self.old }
     {
         self.stage = self.stage.left(closing);
     }
 
-    // Adds the polls that the event engine's answer reports as started. If the answer reports none,
-    // or there are too many pending polls, the round ends early.
+    // Adds the polls that the event engine's answer reports as started. If the answer is not
+    // `Started`, or more than 16 polls would be pending, the round ends early.
     fn start(&mut self, answer: Answer)
         ensures { self.new ≡ rounds.started_by answer self.old }
     {
@@ -116,8 +116,8 @@ impl Round {
         }
     }
 
-    // Requests the next Modbus reads after a poll has ended. If no read remains and no poll is
-    // pending, the round disconnects from its device.
+    // After a poll has ended, selects the stage that starts the next Modbus reads. If no read
+    // remains and no poll is pending, the round disconnects from its device.
     fn request_next_reads(&mut self)
         ensures { self.new ≡ rounds.gone_on self.old }
     {

@@ -1,18 +1,18 @@
 //! The stages of a device's polling round, from its connection to its end.
 use poll_core::Closing;
 
-/// The stage of a polling round, which determines the event that the round requests next.
+/// The stage of a polling round, which determines the event that the round generates next.
 #[derive(Clone, Copy, PartialEq, Eq)]
 pub enum Stage {
-    /// The device is not connected. The round requests nothing.
+    /// The device is not connected. The round generates no event.
     Off,
-    /// The device is connected. The round requests the event `Connected` next.
+    /// The device is connected. The round generates the event `Connected` next.
     Joining,
-    /// Modbus reads of the plan remain. The round requests the command that starts these reads.
+    /// Modbus reads of the plan remain. The round generates the command that starts these reads.
     Starting,
-    /// The round waits for responses of the device, and requests nothing.
+    /// The round waits for responses of the device, and generates no event.
     Waiting,
-    /// The device is disconnected, or the round has ended. The round requests the event `Gone`
+    /// The device is disconnected, or the round has ended. The round generates the event `Gone`
     /// next.
     Leaving(Closing),
 }
@@ -21,7 +21,7 @@ impl Stage {
     ghost use Rattle.std.specs.Prelude.{◌≡◌};
     ghost use Rattle.office_program.specs.DeviceRounds.Stages as stages;
 
-    /// Returns true if a polling round at this stage requests an event.
+    /// Returns true if a polling round at this stage generates an event for the event engine.
     pub fn has_request(self) -> bool
         ensures { result ≡ stages.has_request self }
     {
@@ -35,7 +35,7 @@ impl Stage {
     }
 
     /// Returns the stage of a polling round after the connection to its device has ended with the
-    /// cause `closing`. An earlier cause is kept.
+    /// cause `closing`. If the round was already ending, its earlier cause is kept.
     pub fn left(self, closing: Closing) -> Stage
         ensures { result ≡ stages.left closing self }
     {

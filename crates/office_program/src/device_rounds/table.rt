@@ -5,8 +5,8 @@ ghost use Rattle.office_program.specs.DeviceRounds.Rounds.{heard, has_request};
 use crate::device_rounds::round::Round;
 use office_events::Note;
 
-/// Returns the slot of the first polling round that requests an event, or `None` if no round
-/// requests an event.
+/// Returns the slot of the first polling round that generates an event, or `None` if no round
+/// generates an event.
 pub fn find_requesting(rounds: &[Round]) -> Option<usize>
     ensures { result ≡ position has_request rounds.now }
 {

@@ -11,7 +11,7 @@ pub enum DeviceEvent {
     Connected(usize),
     /// Bytes arrived from the device in the slot.
     Received(usize, Piece),
-    /// The connection to the device in the slot has ended, or the run closes it.
+    /// The connection to the device in the slot has ended, or the program closes this connection.
     Closed(usize, Closing),
     /// A timer event: a second has passed.
     Tick,

@@ -1,5 +1,5 @@
-//! Feeds one event to an office (the event engine), and passes the engine's answer to the polling
-//! rounds.
+//! Feeds one event to an office (the event engine), and passes the engine's answer to a polling
+//! round.
 ghost use Rattle.std.specs.Prelude.{◌≡◌};
 ghost use Rattle.office_program.specs.Passing.{Lasts};
 ghost use Rattle.office_program.specs.Driver.Turns as turns;
@@ -11,8 +11,8 @@ use office_books::Books;
 use office_core::Office;
 use office_events::{Answer, Event, Observer, Refusal};
 
-// Passes the event engine's answer to the polling round in slot `place`, which requested the event.
-// If `place` is `None`, no round requested it.
+// Passes the event engine's answer to the polling round in slot `place`, which generated the event
+// or waited for its bytes. If `place` is `None`, drops the answer.
 fn answer_for(rounds: &mut [Round], place: Option<usize>, answer: Result<Answer, Refusal>)
     ensures { rounds.new ≡ answered_for place answer rounds.old }
 {
@@ -23,10 +23,11 @@ fn answer_for(rounds: &mut [Round], place: Option<usize>, answer: Result<Answer,
     }
 }
 
-/// Feeds one event to the event engine. `place` is the slot of the polling round that requested the
-/// event, or `None` if no round did.
+/// Feeds one event to the event engine. `place` is the slot of the polling round that generated the
+/// event or waited for its bytes, or `None` for a timer event.
 ///
-/// Shows the event to the observer, and passes the answer and the notifications to the rounds.
+/// Passes the answer to this polling round and the notifications to all rounds. Shows the event
+/// with its answer to the observer.
 pub(crate) fn feed_one<B: Books, V: Observer>(
     rounds: &mut [Round],
     place: Option<usize>,
@@ -47,8 +48,8 @@ pub(crate) fn feed_one<B: Books, V: Observer>(
     observer.observe(place, at, event, answer, notes, frames);
 }
 
-/// Returns the slot of the first polling round that requests an event, and this event. Returns
-/// `None` if no round requests an event.
+/// Returns the slot of the first polling round that generates an event, and this event. Returns
+/// `None` if no round generates an event.
 pub(crate) fn first_request(rounds: &[Round]) -> Option<(usize, Event)>
     ensures { turns.as_wished result ≡ turns.first_request rounds.now }
 {

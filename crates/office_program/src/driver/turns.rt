@@ -1,5 +1,5 @@
-//! Processes one device event: feeds it to the office (the event engine), and then feeds the events
-//! that the polling rounds request.
+//! Processes one device event, and then feeds the events that the polling rounds generate to the
+//! office (the event engine).
 ghost use Rattle.std.specs.Prelude.{◌≡◌, ℕ, List, Some, None, slice_get};
 ghost use Rattle.office_program.specs.Passing.{Lasts};
 ghost use Rattle.office_program.specs.Driver.Turns.{at_place, brought, came, came_from, opened, table, wished};
@@ -14,13 +14,12 @@ use office_core::Office;
 use office_events::{Event, Name, Observer, Piece};
 use poll_core::Closing;
 
-/// The largest number of requested events that one call of `turn` feeds after the device event.
-///
-/// If polling rounds request more events, the next call of `turn` feeds the remaining events.
+/// The largest number of events of polling rounds that one call of `turn` feeds to the event engine
+/// after the device event. If the rounds generate more events, the next call of `turn` feeds them.
 pub const MAX_REQUESTS: u32 = 256;
 
-// Feeds the events that the polling rounds request, until no round requests an event or 256 events
-// were fed.
+// Feeds the events that the polling rounds generate to the event engine, until no round generates
+// an event or 256 events were fed.
 fn settle<B: Books, V: Observer>(
     rounds: &mut [Round],
     office: &mut Office<B>,
@@ -55,8 +54,8 @@ fn leave(rounds: &mut [Round], place: usize, closing: Closing)
     }
 }
 
-// Feeds the event `event` first, and then the events that the polling rounds request. `place` is
-// the slot of the polling round that gets the answer to `event`.
+// Feeds the event `event` to the event engine, and then the events that the polling rounds
+// generate. `place` is the slot of the polling round that gets the answer to `event`.
 fn begin<B: Books, V: Observer>(
     rounds: &mut [Round],
     place: Option<usize>,
@@ -73,7 +72,7 @@ fn begin<B: Books, V: Observer>(
     settle(rounds, office, at, observer);
 }
 
-// Feeds the events that the polling rounds request, without a device event first.
+// Feeds only the events that the polling rounds generate to the event engine, and no device event.
 fn feed_requests<B: Books, V: Observer>(
     rounds: &mut [Round],
     office: &mut Office<B>,
@@ -125,11 +124,13 @@ fn take_bytes<B: Books, V: Observer>(
     }
 }
 
-/// Feeds a device event to the event engine, and then the events that the polling rounds request.
+/// Processes a device event, and then feeds the events that the polling rounds generate to the
+/// event engine.
 ///
-/// The polling round in the first slot comes first. The call ends when no round requests an event,
-/// or after 256 requested events. All events have the timestamp `at`, in seconds since 1970-01-01
-/// UTC.
+/// Awaited bytes and a timer event are fed to the engine. A connection or its end changes the state
+/// of the device's polling round. Always the event of the first slot whose round generates one is
+/// fed next. The call ends when no round generates an event, or after 256 events of rounds. All
+/// events have the timestamp `at`, in seconds since 1970-01-01 UTC.
 pub fn turn<B: Books, V: Observer>(
     rounds: &mut [Round],
     device_event: DeviceEvent,

@@ -79,7 +79,7 @@ fn print_doubt<W: Write>(mwh: u128, output: &mut W) -> io::Result<()>
 }
 
 // Prints that a manual entry needs a confirmation: it would record more energy than the meter's
-// power limit allows. Returns the progress of the input after the entry's line.
+// power limit allows. Returns the progress of the input after the line with this entry.
 fn print_doubted<W: Write>(mwh: u128, at: u64, output: &mut W) -> io::Result<Progress>
     ensures { ReportsWhyNot (course.doubted_line mwh) at
         (W.contents output.old) (W.contents output.new) result }
@@ -90,8 +90,8 @@ fn print_doubted<W: Write>(mwh: u128, at: u64, output: &mut W) -> io::Result<Pro
     }
 }
 
-// Prints the refusal of a query that an input line needs, for example whether its manual entry
-// needs a confirmation. Returns the progress of the input after the line.
+// Prints the refusal of a query that an input line needs, for example the query whether its manual
+// entry needs a confirmation. Returns the progress of the input after the line.
 fn print_undecided<W: Write>(why: Refusal, at: u64, output: &mut W) -> io::Result<Progress>
     ensures { ReportsWhyNot (refused_line why) at
         (W.contents output.old) (W.contents output.new) result }
@@ -122,7 +122,7 @@ fn moment<C: Clock>(progress: Progress, clock: &mut C) -> u64
 }
 
 // Feeds a request to the event engine and prints the engine's answer. If the request's manual entry
-// needs a confirmation, prints the energy that the entry would record and feeds nothing.
+// needs a confirmation, feeds nothing and prints only the energy that the entry would record.
 fn ask<B: Books, W: Write>(
     office: &mut Office<B>,
     progress: Progress,
@@ -175,7 +175,8 @@ pub(crate) fn print_faults<W: Write>(rows: &[FaultyRow], output: &mut W) -> io::
     write_refusal(Refusal::Limit, output)
 }
 
-// Prints the faulty rows of a point list. Returns the progress of the input after the list's line.
+// Prints the faulty rows of a point list. Returns the progress of the input after the line with
+// this list.
 fn print_list_faults<W: Write>(
     rows: &[FaultyRow],
     progress: Progress,
@@ -193,8 +194,8 @@ fn print_list_faults<W: Write>(
 }
 
 // Feeds the request of an input line to the event engine. If the line's point list has faulty rows,
-// prints these rows instead. If its manual entry needs a confirmation, prints the entry's energy
-// instead.
+// prints these rows instead. If the line's manual entry needs a confirmation, prints the entry's
+// energy instead.
 fn enter_entry<B: Books, C: Clock, F: NamedFiles, W: Write>(
     office: &mut Office<B>,
     progress: Progress,
@@ -220,8 +221,8 @@ fn enter_entry<B: Books, C: Clock, F: NamedFiles, W: Write>(
     }
 }
 
-// Prints that an input line is bad, and returns the command's exit status. If memory ran out,
-// prints nothing.
+// If an input line is bad, prints a message. If memory ran out, prints nothing. Returns the
+// command's exit status.
 fn print_one_fault<W: Write>(fault: LineFault, number: u64, output: &mut W) -> ExitStatus
     ensures { ReportsFault fault number result (W.contents output.old) (W.contents output.new) }
 {

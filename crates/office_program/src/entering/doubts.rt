@@ -1,5 +1,5 @@
-//! Decides whether a manual entry needs a confirmation. An entry needs one if its energy is more
-//! than the meter's ceiling (its greatest power) allows since the last entry.
+//! Decides whether a manual entry needs a confirmation. The entry needs one if its energy exceeds
+//! what the meter's ceiling (its greatest power) allows in the time since the last entry.
 ghost use Rattle.std.specs.Prelude.{◌≡◌, ◌≤◌, ◌+◌, ◌*◌, ◌^◌};
 ghost use Rattle.std.specs.Option.{option_and_then};
 ghost use Rattle.office_books.specs.History as history;
@@ -26,7 +26,7 @@ fn turned(row: &Installation, raw: u64, rolls: u64) -> u128
 }
 
 // Returns true if an entry is later than the meter's last entry and does not decrease the counter.
-// The office (the event engine) refuses any other entry, so it needs no confirmation.
+// Any other entry needs no confirmation, because the office (the event engine) refuses it.
 fn goes_on(row: &Installation, moment: u64, up_to: u128) -> bool
     ensures { result ≡ spec.goes_on row.now moment up_to }
 {
@@ -34,8 +34,8 @@ fn goes_on(row: &Installation, moment: u64, up_to: u128) -> bool
 }
 
 // Returns true if a load at the meter's ceiling (its greatest power) can advance the counter to
-// `up_to`. One count is subtracted from `up_to`, because the counter may have been about to advance
-// at the last entry.
+// `up_to` in the time since the last entry. One count is subtracted from `up_to`, because the
+// counter may have been about to advance at the last entry.
 fn is_within_ceiling(row: &Installation, moment: u64, up_to: u128) -> bool
     requires sound { IsSound row.now }
     requires small { up_to ≤ 2 ^ 97 }
@@ -46,8 +46,8 @@ fn is_within_ceiling(row: &Installation, moment: u64, up_to: u128) -> bool
     energy * 18 <= u128::from(row.opening.ceiling) * u128::from(seconds) * 5
 }
 
-// Returns the energy of an entry, in mWh, if it is more than the meter's ceiling (its greatest
-// power) allows. Otherwise returns `None`.
+// Returns the energy of an entry, in mWh, if this energy is more than the meter's ceiling (its
+// greatest power) allows since the last entry. Otherwise returns `None`.
 fn doubted_up_to(row: &Installation, moment: u64, up_to: u128) -> Option<u128>
     requires sound { IsSound row.now }
     requires small { up_to ≤ 2 ^ 97 }
@@ -60,7 +60,7 @@ fn doubted_up_to(row: &Installation, moment: u64, up_to: u128) -> Option<u128>
     }
 }
 
-// Returns the energy, in mWh, that the command's entry would record at the meter `row`, if the
+// Returns the energy, in mWh, that the command's entry would record for the meter `row`, if the
 // entry needs a confirmation. Otherwise returns `None`.
 fn doubted_at(at: u64, command: &Command, row: &Installation) -> Option<u128>
     requires { IsSound row.now }
@@ -84,9 +84,9 @@ fn doubted_at(at: u64, command: &Command, row: &Installation) -> Option<u128>
     }
 }
 
-// Returns the energy that a manual entry would record at an open meter, as `doubted_at` does, or
-// `None` for a closed meter. Also returns `None` for a meter with numbers out of range, which the
-// store never returns.
+// For an open meter, returns what `doubted_at` returns: the energy of a manual entry that needs a
+// confirmation. Returns `None` for a closed meter, or for numbers out of range, which the store
+// never returns.
 fn doubted_if_open(at: u64, command: &Command, row: &Installation) -> Option<u128>
     ensures { IsSound row.now
         → result ≡ option_and_then (spec.doubted_at at command.now) (if_open row.now) }
@@ -119,8 +119,8 @@ fn corrected_at(command: &Command) -> Option<Name>
     }
 }
 
-// Returns the energy, in mWh, that the command's entry would record at the register's open meter,
-// if the entry needs a confirmation. Otherwise returns `None`.
+// Returns the energy, in mWh, that the command's entry would record for the accounting register's
+// open meter, if the entry needs a confirmation. Otherwise returns `None`.
 fn doubted_in<B: Books>(
     office: &mut Office<B>,
     at: u64,

@@ -48,18 +48,19 @@ fn enter_text<B: Books, C: Clock, F: NamedFiles, W: Write>(
 /// Opens an event engine over a store at the clock's time, and enters the lines of an input.
 ///
 /// Each input line is a request. Its idempotency key is the caller and the line's first word, a
-/// number. So a line that acted earlier is answered `ok`, and does not act again. The timestamp of
-/// a line is the clock's time, or the timestamp of the previous line if that timestamp is later.
+/// number. So a line that was executed earlier is answered `ok`, and is not executed again. The
+/// timestamp of a line is the clock's time, or the timestamp of the previous line if that timestamp
+/// is later.
 ///
 /// For each line the command prints `ok` or `refused N`. For a faulty point list it prints `row R
 /// fault N` for each faulty row, and then `refused 12`. `bad line N` ends the command: the
 /// remaining lines are not executed.
 ///
-/// A manual entry above the meter's ceiling (its greatest power) is not requested, unless its line
+/// A manual entry above the meter's ceiling (its greatest power) is not executed, unless its line
 /// ends with ` !`. Instead, the command prints `doubted` and the energy in mWh that the entry would
 /// record.
 ///
-/// If the engine cannot be opened, the command prints only `refused N`. Each entry is stored with
+/// If opening the engine is refused, the command prints only `refused N`. Each entry is stored with
 /// the name of its caller; a name that breaks the rules for names makes each line a `bad line`.
 /// Returns the store.
 pub fn enter_books<B: Books, C: Clock, F: NamedFiles, W: Write>(

@@ -1,4 +1,5 @@
-//! Parses an input line into a request. The request is fed to the office (the event engine) later.
+//! Parses an input line into a request, which other functions later feed to the office (the event
+//! engine).
 ghost use Rattle.std.specs.Prelude.{◌≡◌, Some, IfOk};
 ghost use Rattle.script_text.specs.LineWords.Words.{words_of};
 ghost use Rattle.office_program.specs.Entering.FileLines.{seen_line};
@@ -65,7 +66,7 @@ fn kept_line(alloc: Global, line: &[u8]) -> Result<Piece, AllocError>
 }
 
 // Returns the bytes that the store keeps for an input line that names a file: the line, a line
-// feed, and the bytes of the file. A retry must match all of them.
+// feed, and the bytes of the file. A retry must have exactly the same bytes.
 fn file_request(alloc: Global, line: &[u8], text: &[u8]) -> Result<Piece, AllocError>
     ensures { IfOk result (λ kept. kept ≡ lines.file_request line.now text.now) }
 {
@@ -76,7 +77,7 @@ fn file_request(alloc: Global, line: &[u8], text: &[u8]) -> Result<Piece, AllocE
 }
 
 // Returns the parsed form of a script's line that contains the request `want`. Returns `Bad` if the
-// line requests nothing.
+// line contains no request.
 fn wanted_entry(
     alloc: Global,
     caller: Option<Name>,

@@ -14,20 +14,20 @@ pub struct Shown {
     pub sf: i16,
 }
 
-/// A reader of the files that an input names, and of the counters at whose readings it installs
-/// meters.
+/// A reader of the files that an input names, and of the counters at whose present readings the
+/// input installs meters.
 pub trait NamedFiles {
     ghost use Rattle.std.specs.Prelude.{◌≤◌, ℕ, List, Option, IfOk, IfSome, length, option_map};
     ghost use Rattle.office_events.specs.declared.facts.Device.{Device};
     ghost use Rattle.office_events.specs.declared.facts.Register.{Register};
     ghost use Rattle.office_program.specs.declared.entering.files.Shown.{Shown};
 
-    // The possible results of reading a file by its name. These are its bytes, or `None` if the
-    // file can't be read.
+    // The possible results of reading a file by its name: the file's bytes, or `None` if the file
+    // can't be read.
     ghost reports: { Self → List ℕ → Option (List ℕ) → Type 0 } = { λ _ _ _. Unit {0} };
 
     // The possible results of reading the counter of an accounting register from the register's
-    // device. These are its reading, or `None` if the counter can't be read.
+    // device: the counter's reading, or `None` if the counter can't be read.
     ghost shows: { Self → Device → Register → Option Shown → Type 0 } = { λ _ _ _ _. Unit {0} };
 
     /// Reads the file `name` of at most `MOST_FILE` bytes.

@@ -57,8 +57,8 @@ impl Progress {
         }
     }
 
-    /// Returns the exit status of the command if no line was bad. If a line was refused or made no
-    /// request, this is `Refused`.
+    /// Returns the exit status of the command if no line was bad: `Refused` if a line was refused
+    /// or made no request, otherwise `Fine`.
     pub(crate) fn status(self) -> ExitStatus
         ensures { result ≡ status_of self }
     {

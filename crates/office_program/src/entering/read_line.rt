@@ -112,8 +112,8 @@ fn read_line(line: &[u8]) -> Option<ReadLine>
     line_of(number, verb, &mut words)
 }
 
-/// Parses an input line with `@read`. The line may end with the mark ` !` (a confirmation) if it
-/// makes an entry by hand.
+/// Parses an input line with `@read`. A line that makes an entry by hand may end with the mark ` !`
+/// (a confirmation).
 pub(crate) fn read_in(line: &[u8]) -> Option<ReadLine>
     ensures { MatchOption result (spec.IsNoRead line.now) (λ read. spec.IsRead line.now read) }
 {
@@ -130,8 +130,8 @@ pub(crate) fn read_in(line: &[u8]) -> Option<ReadLine>
 }
 
 impl ReadLine {
-    // Returns true if the line may end with or without the mark ` !` (a confirmation), as `marked`
-    // says. Only an exchange may have the mark.
+    // Returns false if the line has the mark ` !` (`marked`) and installs a meter. The mark
+    // confirms an entry by hand, and an installation makes none. Returns true otherwise.
     fn may_end(&self, marked: bool) -> bool
         ensures { result ≡ spec.may_end marked self.now }
     {
@@ -162,7 +162,8 @@ impl ReadLine {
         }
     }
 
-    /// Returns the command of the line with the counter's reading.
+    /// Returns the command of the line with `@read`, where the counter's reading `raw` and `sf`
+    /// replaces `@read`.
     pub(crate) fn command(&self, raw: u64, sf: i64) -> Command
         ensures { result ≡ spec.command_at self.now raw sf }
     {

@@ -13,8 +13,8 @@ use office_events::{Name, Refusal, Register};
 /// request.
 pub(crate) const NOT_READ: Shown = Shown { raw: 0, sf: 0 };
 
-// Returns the reading of the register's counter from the register's device. Returns `None` if the
-// counter can't be read.
+// Returns the reading of the accounting register's counter from the register's device. Returns
+// `None` if the counter can't be read.
 fn shown_at<B: Books, F: NamedFiles>(
     office: &mut Office<B>,
     register: Register,
@@ -33,8 +33,8 @@ fn shown_at<B: Books, F: NamedFiles>(
     }
 }
 
-// Returns the reading of the counter of the register with this name. Returns `None` if the counter
-// can't be read.
+// Returns the reading of the counter of the accounting register with this name. Returns `None` if
+// the counter can't be read.
 fn shown_there<B: Books, F: NamedFiles>(
     office: &mut Office<B>,
     name: &Option<Name>,

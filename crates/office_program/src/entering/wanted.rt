@@ -12,12 +12,12 @@ use script_text::{GivenList, ScriptLine};
 pub(crate) enum Wanted {
     Command(u64, Command),
     List(u64, GivenList),
-    /// The line of the script requests nothing.
+    /// The line of the script contains no request.
     Nothing,
 }
 
-// Returns true if an input line can request the command. Commands that start polls can't be
-// requested.
+// Returns true if the command is allowed in an input line. Commands that start polls are not
+// allowed in an input.
 fn is_request(command: &Command) -> bool
     ensures { result ≡ lines.is_request command.now }
 {
@@ -80,7 +80,7 @@ fn wanted_list(marked: bool, number: u64, list: GivenList) -> Wanted
     }
 }
 
-/// Returns the request in a line of a script. A line with the mark ` !` can request only an entry
+/// Returns the request in a line of a script. A line with the mark ` !` can contain only an entry
 /// by hand.
 pub(crate) fn wanted_in(marked: bool, said: ScriptLine) -> Wanted
     ensures { result ≡ lines.wanted_in marked said }

@@ -1,4 +1,4 @@
-//! Prints the statements of the meters at an accounting register on a range of days. A statement is
+//! Prints the statements of the meters of an accounting register on a range of days. A statement is
 //! a report on one meter, to check a bill.
 ghost use Rattle.std.specs.Prelude.{◌∷◌, []};
 ghost use Rattle.office_core.specs.Asking.{OnlyAsks};
@@ -20,8 +20,8 @@ use office_events::{Installation, Name, Refusal};
 use std::alloc::Global;
 use std::io::Write;
 
-// The number of meter entries in one query. `MOST_PIECES` is the largest number of queries whose
-// entry indexes all fit in 64 bits.
+// The greatest number of meter entries that one query returns. `MOST_PIECES` is the largest number
+// of queries whose entry indexes all fit in 64 bits.
 const PIECE: u32 = 65536;
 
 const MOST_PIECES: u64 = 281_474_976_710_655;
@@ -53,8 +53,8 @@ fn tally<B: Books>(
     Err(Refusal::Memory)
 }
 
-// Returns the energy of a meter in a range of days, in mWh. Only the quarter hours around these
-// days are queried.
+// Returns the energy of a meter in a range of days, in mWh. The function queries only quarter hours
+// on or near these days.
 fn energy<B: Books>(
     office: &mut Office<B>,
     zone: &Zone,
@@ -120,8 +120,8 @@ fn meter_statement<B: Books>(
     }
 }
 
-// Appends the statement (a report to check a bill) of a meter to a list, if the meter was installed
-// in the range of days.
+// If the meter was in place on a day of the range, appends the meter's statement (a report to check
+// a bill) to a list.
 fn add_statement<B: Books>(
     rows: &mut Vec<MeterStatement>,
     office: &mut Office<B>,
@@ -145,8 +145,8 @@ fn add_statement<B: Books>(
     }
 }
 
-// Appends the statement (a report to check a bill) of each listed meter that was installed in the
-// range of days.
+// Appends the statement (a report to check a bill) of each listed meter that was in place on at
+// least one day of the range.
 fn add_statements<B: Books>(
     rows: &mut Vec<MeterStatement>,
     office: &mut Office<B>,
@@ -167,8 +167,8 @@ fn add_statements<B: Books>(
     Ok(())
 }
 
-// Returns the statements (reports to check a bill) of the meters at an accounting register that
-// were installed in the range of days.
+// Returns the statements (reports to check a bill) of the accounting register's meters that were in
+// place on at least one day of the range.
 fn statements<B: Books>(
     alloc: Global,
     office: &mut Office<B>,
@@ -192,15 +192,13 @@ fn statements<B: Books>(
     }
 }
 
-/// Prints the statement of each meter of an accounting register, to check a bill on a range of
-/// days.
+/// Prints the statements (reports to check a bill) of the accounting register's meters that were in
+/// place on at least one day of the range. The meters come in the order of installation.
 ///
-/// The meters come in the order of installation. The statement of a meter has its counter at its
-/// first and last entry in the range, and its energy in the range. It also has the meter's
-/// corrections and its number of rejected readings.
-///
-/// If the office (the event engine) refuses a query, only `refused N` is printed. If `register` is
-/// `None`, no register has the name.
+/// The statement of a meter has its counter at its first and last entry in the range, and its
+/// energy in the range. It also has the meter's corrections and its number of rejected readings. If
+/// the office (the event engine) refuses a query, only `refused N` is printed. If `register` is
+/// `None`, no accounting register has the name.
 pub fn report_statement<B: Books, W: Write>(
     alloc: Global,
     office: &mut Office<B>,

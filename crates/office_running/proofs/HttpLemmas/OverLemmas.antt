@@ -85,8 +85,8 @@ module _ {B : Type 0} (ledger : B → Ledger) (a b : Office B) (zone : Zone) (ea
     puts = puts;
   }
 
-  -- If memory runs out for the energy report, then the call's postcondition holds for any written
-  -- text.
+  -- If memory for the energy report runs out, then the function that writes it returns an error,
+  -- and its postcondition holds for any written text.
   pub unwritten : {E : Type 0} (had holds : List ℕ) (days : Vec DayTotal Global) (result : Result (Result (Unit {0}) Refusal) E) → OnlyAsks ledger a b (Ok days)
       → IsErr result → AsksEnergyOver ledger a b zone earlier register form had holds result
   unwritten had holds days (Ok reported) asks fault = cc fault

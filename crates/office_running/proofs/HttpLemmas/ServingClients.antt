@@ -1,4 +1,4 @@
--- Lemmas on the HTTP requests that the program executes, one after the other.
+-- Lemmas on the HTTP requests that the program executes, one request after the other.
 use Rattle.std.proofs.Common.{◌≡◌, ◌⊎◌, inl, inr, ℕ, true, false, Bool, List, [], ◌∷◌, ◌++◌, Option, Some, None, Result, Ok, Err, refl, sym, ap, ◌∙◌, subst}
 use Rattle.std.specs.Option.{option_and_then}
 use Rattle.std.specs.declared.alloc.AllocError.{AllocError}
@@ -70,7 +70,7 @@ both_ask names at ledger a b c first next = record {
   zone = next.zone ∙ first.zone;
 }
 
--- Lemmas on requests whose route the crate `office_http` has.
+-- Lemmas on requests for the routes that the crate `office_http` defines.
 
 may_of : (may : Bool) (bytes : List ℕ) (head_state : HeadState) → IsRunRoute may bytes head_state None → may ≡ true
 may_of true bytes head_state is = refl
@@ -160,9 +160,9 @@ response_queries ledger old new context route Failed responds = route_queries le
 
 -- Lemmas on responses with many quarter hours.
 
--- If the store has the meter, and the call tried to begin the streamed response with its quarter
--- hours, then `MayBeginRows` holds. The client got the first chunk, or the program only queried its
--- store.
+-- Suppose that the store has the meter, and a function tried to start a streamed response that
+-- contains the meter's quarter hours. Then the client got the first chunk, or the program only
+-- queried its store (`MayBeginRows`).
 pub begins : {B : Type 0} (ledger : B → Ledger) (old mid new : Office B) (meter : Option (List ℕ)) (from till : ℕ) (reply : List Share → List ℕ) (it : Installation)
     (text : Vec ℕ Global) (begun : Result (Result RemainingRows Refusal) AllocError) (before after : Option RemainingRows) (result : Option ClientResponse)
     → ReportsRow ledger old mid (Ok it) (λ facts. option_and_then (meter_of facts) meter) → OnlyAsks ledger old mid (Ok it)
@@ -184,8 +184,8 @@ pub begun_queries : {B : Type 0} (ledger : B → Ledger) (old new : Office B) (m
 begun_queries ledger old new meter from till reply before after response has =
     both_query ledger old has.mid new (queries_by ledger old has.mid (Ok has.it) has.asks) (queries_by ledger has.mid new has.begins.answer has.begins.asks)
 
--- If the program may begin a response with a meter's rows, then it may begin the response of a
--- route that asks for these rows.
+-- Suppose that a function starts a streamed response that contains a meter's quarter hours, or only
+-- queries the store. Then `MayBeginRoute` is true of a route that requests these quarter hours.
 pub of_route : {B : Type 0} (ledger : B → Ledger) (old new : Office B) (route : RunRoute) (meter : Option (List ℕ)) (from till : ℕ)
     (before after : Option RemainingRows) (result : Option ClientResponse) → route ≡ Intervals meter (Between from till)
     → MayBeginRows ledger old new meter from till (with_rows []) before after result → MayBeginRoute ledger old new route before after result

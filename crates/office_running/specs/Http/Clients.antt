@@ -1,4 +1,4 @@
--- The effect of HTTP clients on the program's state and its store.
+-- Defines the effect of HTTP clients on the program's state and its store.
 use Rattle.std.specs.Prelude.{◌≡◌, ℕ, List, [], ◌∷◌}
 use Rattle.office_books.specs.Ledgers.{Ledger}
 use Rattle.office_core.specs.Standing.{After, Stands, books_in}
@@ -6,31 +6,32 @@ use Rattle.office_core.specs.declared.office.Office.{Office}
 use Rattle.office_http.specs.Connections.Connections.{Connection, history_with}
 use Rattle.office_books.specs.History.{History}
 
--- The requests of all connections in the list arrived at the time `at`.
+-- States that the requests of all connections in the list arrived at the time `at`.
 abbrev pub AreAt : {names : List (List ℕ)} → (at : ℕ) → List (Connection names) → Type 0
 AreAt at [] = Unit {0}
 AreAt at (one ∷ earlier) = (one.at ≡ at) × AreAt at earlier
 
--- The program's state results from its earlier history of accepted events and then some HTTP
--- connections at the time `at`. The Host header of each request was accepted.
+-- States that the program's state follows from its earlier history of accepted events, continued by
+-- the requests of some HTTP connections at the time `at`. The Host header of each request was
+-- accepted.
 pub record StandsAfterClients {B : Type 0} (names : List (List ℕ)) (at : ℕ) (ledger : B → Ledger)
     (past : History) (office : Office B) : Type 0 where
   pub connections : List (Connection names)
   pub each : AreAt at connections
   pub stands : Stands ledger (history_with past connections) office
 
--- Whatever bytes clients send, the program has only executed complete requests at the time `at`.
--- The time zone is unchanged. A store that has returned wrong data stays marked as not clean
--- (`is_clean`).
+-- States that, whatever bytes clients send, the program has only executed complete requests, all at
+-- the time `at`. The time zone is unchanged. A store that has returned wrong data stays marked as
+-- not clean (`is_clean`).
 pub record ServesClients {B : Type 0} (names : List (List ℕ)) (at : ℕ) (ledger : B → Ledger)
     (old new : Office B) : Type 0 where
   pub stands : After ledger old new (λ past. StandsAfterClients names at ledger past new)
   pub clean : (ledger (books_in new)).is_clean → (ledger (books_in old)).is_clean
   pub zone : (ledger (books_in new)).zone ≡ (ledger (books_in old)).zone
 
--- The program only queried its store, so its state results from the same history of accepted events
--- as before. The time zone is unchanged. A store that has returned wrong data stays marked as not
--- clean (`is_clean`).
+-- States that the program only queried its store, so its state results from the same history of
+-- accepted events as before. The time zone is unchanged. A store that has returned wrong data stays
+-- marked as not clean (`is_clean`).
 pub record OnlyQueries {B : Type 0} (ledger : B → Ledger) (old new : Office B) : Type 0 where
   pub stands : (past : History) → Stands ledger past old → Stands ledger past new
   pub clean : (ledger (books_in new)).is_clean → (ledger (books_in old)).is_clean

@@ -23,10 +23,10 @@ use Rattle.carried_books.specs.Joining.Reports.{IsReportOver}
 use Rattle.carried_books.specs.declared.joining.days.EarlierDays.{EarlierDays}
 use Rattle.run_http.specs.RegisterReplies.{with_energy_reply}
 
--- The response reports the days of all files of the store, the latest file first. There is no
--- report if the current file has no such register, or the store or memory failed. There is also no
--- report if the program refuses all events after a failure, or if quarter hours of the range are
--- out of order.
+-- States that the response reports the days of the current file and of the earlier files of the
+-- store (`files`). There is no report if the current file has no such register, or the store or
+-- memory failed. There is also no report if the program refuses all events after a failure, or if
+-- quarter hours of the range are out of order.
 abbrev pub ReportsOver : Zone → (facts : List Fact) → (files : List (List Fact))
     → (register : List ℕ) → ReportForm → (before after : Failures)
     → Result (Unit {0}) Refusal → (text : List ℕ) → Type 0
@@ -39,8 +39,8 @@ ReportsOver zone facts files register form before after (Err why) text =
     ⊎ ((why ≡ refusal.Store store.NoDay) × (after ≡ before)
     × AreOutOfTurn (rows_of_both (span_of form.range) (rows_over register files) facts register))
 
--- The reported days are the sums of the energy in the current database file and in the earlier
--- files. The sums are exact if the total energy in mWh fits in 128 bits.
+-- States that the reported days are the sums of the energy in the current database file and in the
+-- earlier files. Nothing is stated if the total energy in mWh does not fit in 128 bits.
 abbrev pub ReportsReportOver : {B : Type 0} → (B → Ledger) → (old new : Office B) → Zone
     → (earlier : EarlierDays) → (register : List ℕ) → ReportForm → Result (Unit {0}) Refusal
     → (text : List ℕ) → Type 0
@@ -51,8 +51,8 @@ ReportsReportOver ledger old new zone earlier register form answer text =
     → ReportsOver zone (facts_of past) files register form
     (failures_of ledger old) (failures_of ledger new) answer text)
 
--- The call queries the store once, and appends the energy report, unless the program refuses the
--- query or memory runs out.
+-- The contract of a function that queries the store once, and appends the energy report, unless the
+-- program refuses the query or memory runs out.
 pub record AsksEnergyOver {B : Type 0} (ledger : B → Ledger) (old new : Office B)
     (zone : Zone) (earlier : EarlierDays) (register : List ℕ) (form : ReportForm) (had holds : List ℕ)
     {E : Type 0} (result : Result (Result (Unit {0}) Refusal) E) : Type 0 where
@@ -64,8 +64,9 @@ pub record AsksEnergyOver {B : Type 0} (ledger : B → Ledger) (old new : Office
       (ReportsReportOver ledger old new zone earlier register form answer report)
   pub puts : OnOk result (OnOk answer (holds ≡ had ++ report))
 
--- The call queries the store once. Unless memory ran out, it appends the response with the energy
--- report, or an error response if the program refused the query.
+-- The contract of a function that responds to a query for energy. The function queries the store
+-- once. Unless memory ran out, it then appends the energy report as a response, or an error
+-- response if the program refused the query.
 pub record RepliesEnergyOver {B : Type 0} (ledger : B → Ledger) (old new : Office B)
     (zone : Zone) (earlier : EarlierDays) (register : List ℕ) (form : ReportForm) (from to : List ℕ)
     {E : Type 0} (result : Result (Unit {0}) E) : Type 0 where

@@ -17,7 +17,8 @@ is_command_in bytes TooLarge = false
 is_command_in bytes NoHead = false
 is_command_in bytes (Whole at) = bytes_eq (span_bytes bytes at.method) (codes "POST")
 
--- The result is true if the bytes hold a complete HTTP head of a command (a POST).
+-- States that `result` is true exactly if the bytes hold a complete HTTP head of a command (a
+-- POST).
 pub record IsCommand (bytes : List ℕ) (result : Bool) : Type 0 where
   pub head_state : HeadState
   pub looks : Looks bytes head_state
@@ -36,29 +37,30 @@ abbrev pub room_of : (most : Option ℕ) → (taken : ℕ) → ℕ
 room_of None taken = 18446744073709551615
 room_of (Some most) taken = most - taken
 
--- The result is true if the bytes are a command with more than `left` bytes. `left` is the number
--- of bytes that may still be stored.
+-- States that `result` is true exactly if the bytes are a command with more than `left` bytes.
+-- `left` is the number of bytes that may still be stored.
 pub record Lacks (left : ℕ) (bytes : List ℕ) (result : Bool) : Type 0 where
   pub is_command : Bool
   pub finds : IsCommand bytes is_command
   pub is : result ≡ (is_command && nat_lt left (length bytes))
 
--- The result is true if the HTTP server rejects the request: a command that exceeds the bytes that
--- may still be stored, or any command while a file of the store is missing.
+-- States that `result` is true exactly if the HTTP server rejects the request. It rejects a command
+-- that exceeds the bytes that may still be stored, and every command while a file of the store is
+-- missing.
 pub record Rejects (left : ℕ) (is_lost : Bool) (bytes : List ℕ) (result : Bool) : Type 0 where
   pub is_command : Bool
   pub finds : IsCommand bytes is_command
   pub is : result ≡ (is_command && (nat_lt left (length bytes) || is_lost))
 
--- An executed command reduces the remaining bytes by the length of its request. Other requests
--- leave the remaining bytes unchanged.
+-- States that an executed command reduces the remaining bytes by the length of its request. Other
+-- requests leave the remaining bytes unchanged.
 pub record Counts (left later : ℕ) (bytes : List ℕ) (reply : ClientResponse) : Type 0 where
   pub is_command : Bool
   pub finds : IsCommand bytes is_command
   pub is : later ≡ if is_command && has_acted reply then left - length bytes else left
 
--- The result is true if the response acknowledges a command: the request is a command and the
--- response has status 200.
+-- States that `result` is true exactly if the response acknowledges a command: the request is a
+-- command and the response has status 200.
 pub record Acknowledges (bytes : List ℕ) (reply : ClientResponse) (result : Bool) : Type 0 where
   pub is_command : Bool
   pub finds : IsCommand bytes is_command

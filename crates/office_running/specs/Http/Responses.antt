@@ -1,4 +1,4 @@
--- The response of each route of `sunreg run`, and the response to a request.
+-- Defines the response of each route of `sunreg run`, and the response to a request.
 use Rattle.std.specs.Prelude.{◌≡◌, ◌⊎◌, ℕ, true, false, Bool, List, [], Option, Some, None, Result, Ok, Err, OnOk, codes}
 use Rattle.std.specs.List.{find}
 use Rattle.std.specs.Option.{option_and_then}
@@ -50,9 +50,9 @@ use Rattle.office_running.specs.declared.http.http_port.HttpPort.{HttpPort}
 use Rattle.office_running.specs.declared.http.repeats.Replied as stored
 use Rattle.office_running.specs.declared.http.run_context.RunContext.{RunContext}
 
--- The response with the energy of an accounting register: over the earlier database files and the
--- current file if earlier files have the register (`earlier`), and otherwise from the current file
--- alone.
+-- The contract of a function that appends the response with the energy of an accounting register.
+-- If earlier database files have the register (`earlier`), the energy is that in these files and
+-- the current file. Otherwise it is that in the current file.
 abbrev pub RepliesDays : {B : Type 0} → (B → Ledger) → (old new : Office B) → Zone
     → (earlier : Option EarlierRegister) → (register : Option (List ℕ)) → ReportForm
     → (from to : List ℕ) → {E : Type 0} → Result (Unit {0}) E → Type 0
@@ -61,8 +61,9 @@ RepliesDays ledger old new zone None register form from to result =
 RepliesDays ledger old new zone (Some it) register form from to result =
     RepliesEnergyOver ledger old new zone it.days it.name form from to result
 
--- The call queries the store as the route asks, which changes no record. It appends the complete
--- response of the route, unless memory runs out.
+-- The contract of a function that responds by a route. The function queries the store as the route
+-- requires, which changes no record. Unless memory runs out, it appends the complete response of
+-- the route.
 abbrev pub RepliesRoute : {B : Type 0} → (B → Ledger) → (old new : Office B) → RunContext
     → RunRoute → (from to : List ℕ) → {E : Type 0} → Result (Unit {0}) E → Type 0
 RepliesRoute ledger old new context (Own route) from to result =
@@ -92,8 +93,8 @@ RepliesRoute ledger old new context (Meters register) from to result =
     RepliesRows ledger old new (λ facts. meters_named facts register) meters_text
     from to result
 
--- The client gets the complete response of the route. If memory ran out while it was built, the
--- client gets nothing.
+-- States that the client gets the complete response of the route. If memory ran out while the
+-- response was built, the client gets nothing.
 abbrev pub RespondsByRoute : {B : Type 0} → (B → Ledger) → (old new : Office B) → RunContext
     → RunRoute → ClientResponse → Type 0
 RespondsByRoute ledger old new context route Open = ⊥
@@ -103,11 +104,11 @@ RespondsByRoute ledger old new context route Failed =
     (text : List ℕ) × (fault : AllocError)
     × RepliesRoute ledger old new context route [] text (Err fault)
 
--- Definitions on responses with many quarter hours, which are sent in chunks.
+-- Definitions on the responses that contain many quarter hours and are therefore sent in chunks.
 
--- The effect of beginning a streamed response with the bytes `text`. `after` has the rows of later
--- chunks. If the program refused the query, there is no response yet. If memory ran out, the
--- response is `Failed`.
+-- States the effect of starting a streamed response whose first chunk is `text`. `after` has the
+-- rows of later chunks. If the program refused the query, there is no response yet. If memory ran
+-- out, the response is `Failed`.
 abbrev pub IsBegunWith : (text : Vec ℕ Global) → Result (Result RemainingRows Refusal) AllocError
     → (before after : Option RemainingRows) → Option ClientResponse → Type 0
 IsBegunWith text (Ok (Ok left)) before after response =
@@ -117,9 +118,9 @@ IsBegunWith text (Ok (Err why)) before after response =
 IsBegunWith text (Err fault) before after response =
     (after ≡ before) × (response ≡ Some Failed)
 
--- The client gets the first chunk of the response with the quarter hours of the meter from `from`
--- until `till`, and `after` has the rows for its later chunks. Or memory ran out, and the client
--- gets nothing.
+-- States that the client gets the first chunk of the response with the quarter hours of the meter
+-- from `from` until `till`. `after` then has the rows for the later chunks. If memory ran out, the
+-- client gets nothing.
 pub record BeginsRows {B : Type 0} (ledger : B → Ledger) (old new : Office B)
     (meter : Option (List ℕ)) (from till : ℕ) (reply : List Share → List ℕ)
     (before after : Option RemainingRows) (response : ClientResponse) : Type 0 where
@@ -132,8 +133,8 @@ pub record BeginsRows {B : Type 0} (ledger : B → Ledger) (old new : Office B)
   pub begins : BeginsReply ledger mid new it from till reply text.items result
   pub is : IsBegunWith text result before after (Some response)
 
--- Either the call begins a streamed response with the quarter hours of a meter, or it only queries
--- the store. In the second case, the caller builds the response.
+-- States that a function starts a streamed response that contains the quarter hours of a meter, or
+-- only queries the store. In the second case, the function's caller builds the response.
 abbrev pub MayBeginRows : {B : Type 0} → (B → Ledger) → (old new : Office B)
     → (meter : Option (List ℕ)) → (from till : ℕ) → (reply : List Share → List ℕ)
     → (before after : Option RemainingRows) → Option ClientResponse → Type 0
@@ -142,7 +143,8 @@ MayBeginRows ledger old new meter from till reply before after None =
 MayBeginRows ledger old new meter from till reply before after (Some response) =
     BeginsRows ledger old new meter from till reply before after response
 
--- The call begins the response of a route with the quarter hours of a meter.
+-- States that the route requests quarter hours of a meter, and that a function starts the streamed
+-- response that contains them.
 pub record BeginsRoute {B : Type 0} (ledger : B → Ledger) (old new : Office B) (route : RunRoute)
     (before after : Option RemainingRows) (response : ClientResponse) : Type 0 where
   pub meter : Option (List ℕ)
@@ -151,8 +153,8 @@ pub record BeginsRoute {B : Type 0} (ledger : B → Ledger) (old new : Office B)
   pub is : route ≡ Intervals meter (Between from till)
   pub begins : BeginsRows ledger old new meter from till (with_rows []) before after response
 
--- Either the call begins a streamed response of a route with quarter hours, or it only queries the
--- store. In the second case, the caller builds the response.
+-- States that a function starts the streamed response of a route that requests quarter hours, or
+-- only queries the store. In the second case, the function's caller builds the response.
 abbrev pub MayBeginRoute : {B : Type 0} → (B → Ledger) → (old new : Office B) → RunRoute
     → (before after : Option RemainingRows) → Option ClientResponse → Type 0
 MayBeginRoute ledger old new route before after None =
@@ -160,7 +162,8 @@ MayBeginRoute ledger old new route before after None =
 MayBeginRoute ledger old new route before after (Some response) =
     BeginsRoute ledger old new route before after response
 
--- The call begins the response with all quarter hours of the meter that the request names.
+-- States that a function starts the streamed response that contains all quarter hours of the meter
+-- that the request names.
 pub record BeginsAll {B : Type 0} (ledger : B → Ledger) (old new : Office B) (table : Table)
     (request : List ℕ) (before after : Option RemainingRows) (response : ClientResponse)
     : Type 0 where
@@ -169,8 +172,8 @@ pub record BeginsAll {B : Type 0} (ledger : B → Ledger) (old new : Office B) (
   pub begins : BeginsRows ledger old new meter 0 18446744073709551615 (with_all_rows [])
       before after response
 
--- Either the call begins a streamed response with all quarter hours of a meter, or it only queries
--- the store. In the second case, the caller builds the response.
+-- States that a function starts a streamed response that contains all quarter hours of a meter, or
+-- only queries the store. In the second case, the function's caller builds the response.
 abbrev pub MayBeginAll : {B : Type 0} → (B → Ledger) → (old new : Office B) → Table
     → (request : List ℕ) → (before after : Option RemainingRows) → Option ClientResponse → Type 0
 MayBeginAll ledger old new table request before after None =
@@ -180,16 +183,16 @@ MayBeginAll ledger old new table request before after (Some response) =
 
 -- Definitions on the response to a request.
 
--- The client gets status 503, because the server rejects a command. If memory ran out, the client
--- gets nothing.
+-- States that the client gets status 503, because the server rejects a command. If memory ran out,
+-- the client gets nothing.
 abbrev pub IsUnavailable : ClientResponse → Type 0
 IsUnavailable Open = ⊥
 IsUnavailable (Replied text) =
     text.items ≡ with_reply Unavailable (codes "application/json") (fault_text Unavailable) []
 IsUnavailable Failed = Unit {0}
 
--- The client gets the complete response of the route. Before that, the program may only query its
--- store.
+-- States that the client gets the complete response of the route. Before the response, the program
+-- only queried its store, or did nothing.
 pub record RespondsWhole {B : Type 0} (ledger : B → Ledger) (old new : Office B)
     (context : RunContext) (route : RunRoute) (response : ClientResponse)
     : Type 0 where
@@ -197,16 +200,16 @@ pub record RespondsWhole {B : Type 0} (ledger : B → Ledger) (old new : Office 
   pub looks : OnlyQueries ledger old mid
   pub responds : RespondsByRoute ledger mid new context route response
 
--- The response of a route of `sunreg run`: the complete response, or the first chunk of a long
--- response.
+-- States that the client gets the response of a route of `sunreg run`: the complete response, or
+-- the first chunk of a long response.
 abbrev pub BeginsResponse : {B : Type 0} → (B → Ledger) → (old new : Office B) → RunContext
     → RunRoute → (before after : Option RemainingRows) → ClientResponse → Type 0
 BeginsResponse ledger old new context route before after response =
     BeginsRoute ledger old new route before after response
     ⊎ ((after ≡ before) × RespondsWhole ledger old new context route response)
 
--- The program executes a request whose route the crate `office_http` has. Before that, the program
--- may only query its store.
+-- States that the program executes a request for a route that the crate `office_http` defines.
+-- Before the request, the program only queried its store, or did nothing.
 pub record Executes {B : Type 0} (ledger : B → Ledger) (at : ℕ) (old new : Office B)
     (request : List ℕ) (response : ClientResponse) : Type 0 where
   pub mid : Office B
@@ -214,8 +217,9 @@ pub record Executes {B : Type 0} (ledger : B → Ledger) (at : ℕ) (old new : O
   pub asks : Asks ledger at mid new request response
   pub lasts : Lasts ledger mid new
 
--- The response to a request whose route the crate `office_http` has. If `rejects` is true, the
--- request is a rejected command: it changes nothing and gets status 503.
+-- States that the client gets the response to a request for a route that the crate `office_http`
+-- defines. If `rejects` is true, the request is a rejected command: it changes nothing and gets
+-- status 503.
 abbrev pub RespondsToOffice : {B : Type 0} → (B → Ledger) → (at : ℕ) → (old new : Office B)
     → Table → (request : List ℕ) → (before after : Option RemainingRows) → (rejects : Bool)
     → ClientResponse → Type 0
@@ -225,8 +229,9 @@ RespondsToOffice ledger at old new table request before after false response =
     BeginsAll ledger old new table request before after response
     ⊎ ((after ≡ before) × Executes ledger at old new request response)
 
--- The response to a request that no route of `sunreg run` matches. A command is rejected if the
--- limit `left` for stored commands is reached, or if a file of the store is missing.
+-- States that the client gets the response to a request that no route of `sunreg run` matches. A
+-- command is rejected if it has more bytes than may still be stored (`left`), or if a file of the
+-- store is missing.
 pub record ExecutesUnlessRejected {B : Type 0} (ledger : B → Ledger) (at : ℕ) (old new : Office B)
     (table : Table) (left : ℕ) (is_lost : Bool) (request : List ℕ)
     (before after : Option RemainingRows) (response : ClientResponse) : Type 0 where
@@ -234,8 +239,8 @@ pub record ExecutesUnlessRejected {B : Type 0} (ledger : B → Ledger) (at : ℕ
   pub tests : Rejects left is_lost request rejects
   pub responds : RespondsToOffice ledger at old new table request before after rejects response
 
--- The response to a request by its route of `sunreg run`. A request without such a route is
--- executed, or rejected if it is a command that may not be stored.
+-- States that the client gets the response of the request's route of `sunreg run`. A request
+-- without such a route is executed, or rejected if it is a command that may not be stored.
 abbrev pub RespondsBy : {B : Type 0} → (B → Ledger) → HttpPort → (old new : Office B)
     → (request : List ℕ) → RunContext → Option RunRoute
     → (before after : Option RemainingRows) → ClientResponse → Type 0
@@ -245,8 +250,8 @@ RespondsBy ledger port old new request context None before after response =
 RespondsBy ledger port old new request context (Some route) before after response =
     BeginsResponse ledger old new context route before after response
 
--- The client gets the response of the route that its own request names. A request with a rejected
--- host has a route whose response is an error.
+-- States that the client gets the response of the route that its own request names. A request with
+-- a rejected host has a route whose response is an error.
 pub record RespondsTo {B : Type 0} (ledger : B → Ledger) (port : HttpPort) (old new : Office B)
     (request : List ℕ) (context : RunContext) (before after : Option RemainingRows)
     (response : ClientResponse) : Type 0 where
@@ -254,15 +259,15 @@ pub record RespondsTo {B : Type 0} (ledger : B → Ledger) (port : HttpPort) (ol
   pub finds : IsFor (texts context.names.now) request route
   pub responds : RespondsBy ledger port old new request context route before after response
 
--- The client gets a cached response, whose request is equal to this client's request.
+-- States that the client gets a cached response, whose request is equal to this client's request.
 abbrev pub IsStored : Option stored.Replied → (request : List ℕ) → ClientResponse → Type 0
 IsStored stored request Open = ⊥
 IsStored stored request (Replied text) = WasReplied stored request text.items
 IsStored stored request Failed = ⊥
 
--- The client gets the cached response to an equal request, without a query to the store, or a new
--- response. The cache has only responses to queries for energy, so the program executes every
--- command.
+-- States that the client gets either the cached response to an equal request, without a query to
+-- the store, or a newly built response. The cache has only responses to queries for energy, so the
+-- program executes every command.
 abbrev pub RespondsAgain : {B : Type 0} → (B → Ledger) → HttpPort → (old new : Office B)
     → (request : List ℕ) → RunContext → (before after : Option RemainingRows) → ClientResponse
     → Type 0
@@ -271,8 +276,8 @@ RespondsAgain ledger port old new request context before after response =
     × IsStored port.repeats.latest request response)
     ⊎ RespondsTo ledger port old new request context before after response
 
--- The program built the response to this request or had it in its cache, and did nothing else to
--- its store. So only this client's request can have changed the store.
+-- States that the program built the response to this request or had it in its cache, and did
+-- nothing else to its store. So only this client's request can have changed the store.
 pub record Answers {B : Type 0} (ledger : B → Ledger) (port : HttpPort) (old new : Office B)
     (request : List ℕ) (context : RunContext) : Type 0 where
   pub after : Option RemainingRows

@@ -2,6 +2,7 @@
 ghost use Rattle.std.specs.Prelude.{◌≡◌, ◌⊎◌, false, true};
 ghost use Rattle.office_http.specs.Messages.Hosts.{texts};
 ghost use Rattle.office_running.specs.Http.Clients.{OnlyQueries, ServesClients};
+ghost use Rattle.office_running.specs.Http.KeptRoom.{Counts};
 ghost use Rattle.office_running.specs.Http.Responses.{Answers, ExecutesUnlessRejected};
 ghost use Rattle.office_running.specs.Http.Responses.{RespondsAgain, RespondsTo};
 
@@ -32,8 +33,8 @@ use std::alloc::{AllocError, Global};
 use std::io::ErrorKind;
 use std::mem;
 
-// The most chunks of a response that are sent to one client in a row. The limits of one iteration
-// of the main loop are usually reached earlier.
+// The maximum number of chunks of a response that are sent to one client in a row. The limits of
+// one iteration of the main loop are usually reached earlier.
 const MOST_PIECES: u32 = 64;
 
 /// The event token of the listening socket. The token of a connection is its index among the
@@ -106,7 +107,7 @@ impl HttpPort {
     }
 
     /// Returns the slot (index) of the connection that is served first. It follows the slot that
-    /// was answered last.
+    /// was answered last, or is that slot if its response has more rows.
     pub fn first(&self) -> usize
         ensures { result ≡ self.now.first }
     {
@@ -115,7 +116,9 @@ impl HttpPort {
 
     // Subtracts a response from the limits of this pass of the event loop. The next pass then
     // begins with the next connection.
-    fn record_reply(&mut self, slot: usize, bytes: usize, milliseconds: u64) {
+    fn record_reply(&mut self, slot: usize, bytes: usize, milliseconds: u64)
+        ensures { self.new.room ≡ self.old.room }
+    {
         self.share = self.share.after(bytes, milliseconds);
         self.first = place_at(slot, 1);
     }
@@ -142,15 +145,15 @@ impl HttpPort {
         self.is_lost = true;
     }
 
-    /// Returns whether a file of the store is missing. The port checks the files before each
-    /// acknowledgement of a command.
+    /// Returns whether a file of the store is missing. The server checks the files before it
+    /// acknowledges a command.
     pub fn has_lost(&self) -> bool
         ensures { result ≡ self.now.is_lost }
     {
         self.is_lost
     }
 
-    /// Marks the listening socket or a connection as ready, by its event token.
+    /// Marks as ready the listening socket or the connection that has this event token.
     pub fn mark(&mut self, token: usize) {
         if token == PORT_TOKEN {
             self.waiting = true;
@@ -161,8 +164,8 @@ impl HttpPort {
         }
     }
 
-    // Returns whether the port may make another response. The result is false while the unread
-    // responses of clients have too many bytes.
+    // Returns whether the HTTP server may make another response. The result is false while
+    // responses that clients have not read yet take too much memory.
     fn may_reply(&self) -> bool {
         let mut held = 0usize;
         for connection in &self.connections {
@@ -184,8 +187,10 @@ impl HttpPort {
         self.waiting
     }
 
-    // Drops the connection at this index, and frees its place.
-    fn drop_client(&mut self, slot: usize) {
+    // Drops the connection in a slot (one of up to 64 places for connections), and frees the slot.
+    fn drop_client(&mut self, slot: usize)
+        ensures { self.new.room ≡ self.old.room }
+    {
         if slot < MOST_CLIENTS && slot < self.connections.len() {
             self.client_slots.free_slot(slot);
             self.connections[slot] = None;
@@ -257,9 +262,9 @@ impl HttpPort {
         }
     }
 
-    // Executes a request for one of the routes that `serve` and `run` share, if no route of `sunreg
-    // run` alone matches. Rejects a command if the limit for stored commands is reached or a file
-    // of the store is missing. `rows` receives the rows that later chunks send.
+    // Executes a request for a route that `sunreg serve` and `sunreg run` share, after no route of
+    // `sunreg run` alone matched. Rejects a command if the limit for stored commands is reached or
+    // a file of the store is missing. `rows` receives the rows that later chunks send.
     fn execute<B: Books>(
         &self,
         request: &[u8],
@@ -393,7 +398,9 @@ impl HttpPort {
 
     // Cuts off all responses with rows still to be sent. A request to void an entry (to withdraw a
     // false reading) may have changed these rows.
-    fn cut_replies(&mut self) {
+    fn cut_replies(&mut self)
+        ensures { self.new.room ≡ self.old.room }
+    {
         for slot in 0..MOST_CLIENTS {
             if slot < self.connections.len() && has_rows_left(&self.connections[slot]) {
                 self.drop_client(slot);
@@ -418,7 +425,9 @@ impl HttpPort {
         request: &[u8],
         asked: &ClientResponse,
         milliseconds: u64,
-    ) {
+    )
+        ensures { Counts self.old.room.left self.new.room.left request.now asked.now }
+    {
         self.record_reply(slot, size_of(asked), milliseconds);
         self.is_full = self.is_full || self.room.lacks(request);
         self.room.count(request, asked);

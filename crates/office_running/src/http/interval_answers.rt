@@ -1,4 +1,4 @@
-//! Begins responses with many quarter hours, which are sent in chunks.
+//! Starts the responses that contain many quarter hours and are therefore sent in chunks.
 ghost use Rattle.std.specs.Prelude.{[]};
 ghost use Rattle.office_running.specs.Http.Clients.{OnlyQueries};
 ghost use Rattle.run_http.specs.Pieces.{with_rows};
@@ -19,8 +19,8 @@ use std::alloc::{AllocError, Global};
 /// each.
 const PIECE_SECONDS: u64 = 900_000;
 
-// Returns the response whose first chunk was written. Returns `None` if the program refused the
-// query; the caller then builds a complete response.
+// Returns the first chunk of a streamed response. Returns `None` if the program refused the query;
+// the caller then builds a complete response.
 fn begun_answer(
     text: Vec<u8>,
     begun: Result<Result<RemainingRows, Refusal>, AllocError>,
@@ -38,8 +38,8 @@ fn begun_answer(
     }
 }
 
-// Begins the response with the quarter hours of a meter from `from` until `till`, if they exceed
-// one chunk.
+// Starts a streamed response that contains the quarter hours of a meter from `from` until `till`.
+// Returns `None` if they fit in one chunk, or if the program refused a query.
 fn begin_rows<B: Books>(
     alloc: Global,
     office: &mut Office<B>,
@@ -62,8 +62,9 @@ fn begin_rows<B: Books>(
     begun_answer(text, begun, rows)
 }
 
-/// Begins the response of a route with the quarter hours of a time span, if they exceed one chunk.
-/// `rows` receives the rows of the later chunks. Returns `None` for any other route.
+/// Starts the streamed response of a route that requests the quarter hours of a time span, if they
+/// exceed one chunk. `rows` receives the rows of the later chunks. Returns `None` for any other
+/// route.
 pub(crate) fn begin_route<B: Books>(
     alloc: Global,
     office: &mut Office<B>,
@@ -81,8 +82,8 @@ pub(crate) fn begin_route<B: Books>(
     begin_rows(alloc, office, meter, from, till, rows)
 }
 
-/// Begins the response with all quarter hours of a meter, if the request asks for them and they
-/// exceed one chunk. `rows` receives the rows of the later chunks.
+/// Starts the streamed response that contains all quarter hours of a meter, if the request asks for
+/// them and they exceed one chunk. `rows` receives the rows of the later chunks.
 pub(crate) fn begin_all<B: Books>(
     alloc: Global,
     router: &Router<Route>,
@@ -107,8 +108,8 @@ pub(crate) fn begin_all<B: Books>(
     begun_answer(text, begun, rows)
 }
 
-/// Appends the next chunk of a response or the end of the response, and returns whether it was the
-/// end. Returns `None` if the store failed or memory ran out.
+/// Appends the next chunk of a streamed response or its last part, and returns whether it was the
+/// last part. Returns `None` if the store failed or memory ran out.
 #[tactic(auto, using(crate::proofs::HttpLemmas::ServingClients::queries_nothing, crate::proofs::HttpLemmas::ServingClients::queries_reported))]
 pub(crate) fn append_piece<B: Books>(
     alloc: Global,

@@ -1,4 +1,4 @@
-//! The time at which a request is served: for timeouts, and for the store's records.
+//! The time at which an HTTP request is served: for timeouts, and for the store's records.
 
 /// The time at which a request is served, as the time of the run's own clock and as a timestamp.
 #[derive(Clone, Copy)]

@@ -6,13 +6,13 @@ use mio::net::TcpStream;
 use std::alloc::{AllocError, Global};
 use std::io::{ErrorKind, Write};
 
-/// The most reads from a socket in a row, and the most writes to a socket in a row.
+/// The maximum number of reads from a socket in a row, and of writes to a socket in a row.
 pub(crate) const MOST_CALLS: u32 = 16;
 
 /// The outcome of a read from a socket or a write to it.
 #[derive(Clone, Copy)]
 pub enum Went {
-    /// Some bytes were read or written, or the call was interrupted.
+    /// Some bytes were read or written, or the system call was interrupted.
     On,
     /// The socket has no input, or no room for output, at present.
     Waits,

@@ -4,7 +4,7 @@ ghost use Rattle.office_running.specs.Http.Repeats as repeats;
 
 use std::alloc::Global;
 
-// The most bytes of a cached response. An energy report by month is shorter.
+// The maximum size of a cached response, in bytes. An energy report by month is shorter.
 const MOST_BYTES: usize = 65_536;
 
 /// The cached pair of a request and the response to the request.

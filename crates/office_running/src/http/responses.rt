@@ -20,8 +20,8 @@ use run_http::{
 };
 use std::alloc::{AllocError, Global};
 
-// Appends the response with the energy of an accounting register, including earlier database files
-// that have the register.
+// Appends the response with the energy of an accounting register, including its energy in earlier
+// database files that have the register.
 fn reply_days<B: Books>(
     alloc: Global,
     text: &mut Vec<u8>,

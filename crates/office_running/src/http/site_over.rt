@@ -11,8 +11,8 @@ use office_events::{Installation, Refusal};
 use run_http::{SiteLine, write_site_reply};
 use std::alloc::{AllocError, Global};
 
-// Returns the entry for an accounting register in `/site`, with the latest of its meters in the
-// current and earlier database files. `earlier` are its meters in earlier database files.
+// Returns the entry for an accounting register in `/site`, with the latest of its meters in all
+// database files. `earlier` are its meters in the earlier files.
 fn line_after(earlier: &[Installation], row: &SiteRow) -> SiteLine
     ensures { result ≡ site.line_after earlier.now row.now }
 {
@@ -31,8 +31,8 @@ fn line_after(earlier: &[Installation], row: &SiteRow) -> SiteLine
     }
 }
 
-// Returns the entries for accounting registers in `/site`, each with its latest meter in the
-// current and earlier database files.
+// Returns the entries for accounting registers in `/site`, each with the latest of its meters in
+// all database files (earlier and current).
 fn lines_over(
     alloc: Global,
     earlier: &[EarlierRegister],
@@ -82,9 +82,9 @@ fn append_answer(
     write_site_reply(alloc, text, moment, &reported)
 }
 
-/// Appends the response of `/site`: each accounting register with its latest meter in the current
-/// and earlier database files. `moment` is in seconds since 1970-01-01 UTC. If memory runs out, a
-/// part of the response is appended.
+/// Appends the response of `/site`: each accounting register with the latest of its meters in all
+/// database files (earlier and current). `moment` is in seconds since 1970-01-01 UTC. If memory
+/// runs out, a part of the response is appended.
 pub(crate) fn reply_site_over<B: Books>(
     alloc: Global,
     text: &mut Vec<u8>,

@@ -27,8 +27,8 @@ came fs i f a b c lt is one two =
     subst (λ (l : List Fact). Goes {X = Unit {0}} {E = RowFault} a c (Ok tt) (RecordsAll l)) (sym more)
     (going.goes_then a b c tt (Ok tt) (RecordsAll (take i fs)) (Records f) (RecordsAll (take i fs ++ f ∷ [])) one two (λ content mid after all here. one_recorded (take i fs) f content mid after all here))
 
--- If a transaction failed and satisfies its contract `Commits`, the contract also holds with
--- another error in the transaction's result.
+-- The contract `Commits` of a failed transaction does not depend on the error. If it holds for a
+-- failed transaction, it also holds if the transaction returns another error.
 pub commit_failed : {X Y D : Type 0} (T : RowFault → Type 0) (a b : State) (e : D) (r : Result Y RowFault) (Makes : Content → Content → Type 0) → Commits {X = X} a b (Err e) Makes → IsErrAnd r T → Commits a b r Makes
 commit_failed T a b e (Ok y) Makes one is = absurd is
 commit_failed T a b e (Err d) Makes one is = record { ok = λ clean content has. tt; err = one.err; survives = one.survives }

@@ -28,7 +28,7 @@ use Rattle.office_store.proofs.Recorded.{device_recorded, register_recorded, pol
 use Rattle.office_store.proofs.Held.{hold_recorded}
 use Rattle.office_store.proofs.Listed.{list_recorded}
 
--- The row that is inserted for a new device encodes the record of the device.
+-- Lemmas that the row that is inserted for a new device encodes the record of the device.
 
 abbrev pub AddsDevice : (name : List ℕ) → DeviceRow → Content → Content → Type 0
 AddsDevice name row = Edits list_tree.devices device_columns (with_row (let d : Added = record { name = name; row = row } in d))
@@ -43,8 +43,8 @@ device_entered device place name row name_is row_is before mid after next adds =
     device_recorded device place before after next.following
     (subst (λ (d : Added). Edits list_tree.devices device_columns (with_row d) before after) is (subst (λ tables. AddsDevice name row tables after) next.same adds))
 
--- The rows that replace a device's rows of `points` encode the record of the device's new point
--- list.
+-- Lemmas that the rows that replace a device's rows of `points` encode the record of the device's
+-- new point list.
 
 abbrev pub PutsList : (device : List ℕ) → List Point → Content → Content → Type 0
 PutsList device ps = Edits list_tree.points point_columns (with_list device ps)
@@ -55,8 +55,8 @@ pub list_entered : (put : DeviceList) (device : List ℕ) (ps : List Point) → 
 list_entered put device ps device_is are tables after puts =
     list_recorded put ps tables after (are put.device) (subst (λ d. PutsList d ps tables after) device_is puts)
 
--- The row that is inserted for a new accounting register (a named energy counter) encodes the
--- record of the register.
+-- Lemmas that the row that is inserted for a new accounting register (a named energy counter)
+-- encodes the record of the register.
 
 abbrev pub AddsRegister : (name device : List ℕ) → RegisterRow → Content → Content → Type 0
 AddsRegister name device row = Edits list_tree.registers register_columns (with_row (let r : Registered = record { name = name; device = device; row = row } in r))
@@ -71,8 +71,8 @@ register_entered register place name device row name_is device_is row_is before 
     register_recorded register place before after next.following
     (subst (λ (r : Registered). Edits list_tree.registers register_columns (with_row r) before after) is (subst (λ tables. AddsRegister name device row tables after) next.same adds))
 
--- The rows that are inserted into `polls`, `outcomes` and `holds` encode the records of a poll, its
--- outcome and a rejected reading.
+-- Lemmas that the rows that are inserted into `polls`, `outcomes` and `holds` encode the records of
+-- a poll, its outcome and a rejected reading.
 
 abbrev pub AddsPoll : (device : List ℕ) → PollRow → Content → Content → Type 0
 AddsPoll device row = Edits poll_tree.polls poll_columns (with_row (let p : Started = record { device = device; row = row } in p))
@@ -102,7 +102,7 @@ hold_entered law held place meter row meter_is row_is before mid after next adds
     hold_recorded law held place before after next.following
     (subst (λ (h : Held). Edits poll_tree.holds hold_columns (with_row h) before after) is (subst (λ content. AddsHold meter row content after) next.same adds))
 
--- The row that is inserted into `replies` encodes the record of an accepted request.
+-- Lemma that the row that is inserted into `replies` encodes the record of an accepted request.
 
 abbrev pub AddsReply : (caller : List ℕ) → (number : ℕ) → (request : List ℕ) → CommandKind → (moment : ℕ) → Content → Content → Type 0
 AddsReply caller number request kind moment =

@@ -1,5 +1,5 @@
 -- Proofs about a meter's rows of `intervals` (energy by quarter hour) after a false reading was
--- voided (cancelled), which subtracts and adds energy.
+-- voided (cancelled). Voiding subtracts and adds energy.
 use Rattle.std.proofs.Common.{◌≡◌, ℕ, ◌-◌, ◌≤◌, ◌<◌, ◌==◌, ◌&&◌, not, Bool, true, false, cond, inl, inr, List, [], ◌∷◌, ◌++◌, map, filter, bytes_eq, nat_le, nat_lt, refl, sym, ap, subst, ◌∙◌, arith, eqb-true, IsPermutation}
 use Rattle.std.specs.List.{list_any, AllByRecursion}
 use Rattle.std.proofs.lemmas.Bool.{cases_Bool, cond-true, cond-false, and_parts}
@@ -64,8 +64,8 @@ pub starts_below_without : (bound : ℕ) (shares rows : List Share) → AllByRec
 starts_below_without bound [] rows h = h
 starts_below_without bound (share ∷ shares) rows h = starts_below_without bound shares (journal.without_share share rows) (starts_below_less bound share rows h)
 
--- If all quarter hours in a list start before a bound, adding energy of another such quarter hour
--- keeps this property of the list.
+-- If all quarter hours in a list start before a bound, they still do after energy is added in a
+-- quarter hour before the bound.
 below_with : (bound : ℕ) (share : Share) (rows : List Share) → share.start < bound → AllByRecursion (λ (row : Share). row.start < bound) rows → AllByRecursion (λ (row : Share). row.start < bound) (journal.with_share share rows)
 below_with bound share [] low h = (low, tt)
 below_with bound share (row ∷ rows) low h = elim (cases_Bool (row.start == share.start)) [
@@ -193,8 +193,8 @@ module _ (meter : List ℕ) where
     | inr off ↦ ap (λ n. filter (λ (row : Share). nat_lt row.start n) shares) (cond-false (last == opened) 0 last off) ∙ sym (cond-false (last == opened) [] (filter (λ (row : Share). nat_lt row.start last) shares) off)
   ]
 
-  -- If a reading of one meter is voided (cancelled), the rows of `intervals` for all other meters
-  -- stay unchanged.
+  -- Lemmas that, if a reading of one meter is voided (cancelled), the rows of `intervals` for all
+  -- other meters stay unchanged.
 
   module _ (other : List ℕ) (off : bytes_eq meter other ≡ false) where
     apart_from : (i : Interval) → is_of other i ≡ true → is_of meter i ≡ false
@@ -227,7 +227,8 @@ module _ (meter : List ℕ) where
     others_dropped from [] = refl
     others_dropped from (i ∷ rows) = kept_step (is_of meter i) (nat_le from (start_of i)) (is_of other i) i (without_where (starts_from meter from) rows) rows refl refl (others_dropped from rows)
 
--- Lemmas on all changes to `intervals` when a meter's reading is voided (cancelled).
+-- Lemmas on the combined effect of all changes to `intervals` when a meter's reading is voided
+-- (cancelled).
 
 module _ (meter : List ℕ) (A B C : List Share) (from : ℕ) (rows : List Interval) where
   abbrev pub less_rows : List Interval

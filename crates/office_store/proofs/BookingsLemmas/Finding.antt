@@ -17,13 +17,14 @@ use Rattle.office_store.specs.Bookings.MeterState.{IsStanding}
 use Rattle.office_store.specs.Bookings.Places.{Answered}
 use Rattle.office_store.specs.Bookings.Surroundings.{HasEntry, StandsBefore, StandsAfter, FindsEntry, FindsBefore, FindsAfter, AreNear, OpenedAt, IsAround}
 
--- If a query changes nothing, every property that the tables had before the query holds after it.
+-- If a query changes nothing, every property that the tables have after the query also held before
+-- the query.
 pub earlier : (P : Content → Type 0) (content after : Content) → after ≡ content → P after → P content
 earlier P content after same holds = subst P same holds
 
 module _ (meter : List ℕ) where
-  -- True if a query found the meter's entry at an index, or None if the meter has no such entry,
-  -- and changed nothing.
+  -- True if a query changed nothing, and its answer is the meter's entry at an index. The answer
+  -- None means that the meter has no entry there.
   abbrev pub Asks : (place : ℕ) → Option EntryRow → Content → Content → Type 0
   Asks place found = Reported entries entry_columns (IsFound (is_entry meter place) IsRow) found
 
@@ -79,8 +80,9 @@ module _ (meter : List ℕ) where
   standing_later : (standing : Standing) (content mid after : Content) → after ≡ mid → IsStanding meter standing content mid → IsStanding meter standing content after
   standing_later standing content mid after same is = record { same = same ∙ is.same; following = is.following; last = is.last; range = is.range }
 
-  -- Queries for a meter's state, the time of its first entry, and an entry with its neighbours find
-  -- all data for voiding (cancelling) the entry.
+  -- Suppose that queries find a meter's state, the time of its first entry, and an entry with its
+  -- nearest valid entries. Together the answers are all data that voiding (cancelling) this entry
+  -- needs.
   pub around : (place : ℕ) (found : Surroundings) (before : Content) (mid : Content) (late : Content) (after : Content) → IsStanding meter found.standing before mid → OpenedAt meter found.opened mid late
       → AreNear meter place found.near late after → IsAround meter place found before after
   around place found before mid late after standing opened near = record {

@@ -1,5 +1,5 @@
--- Proofs that the entry after a voided (cancelled) entry is at most as late as the last timestamp
--- of the meter's counter.
+-- Proofs that the entry after a voided (cancelled) entry is not later than the meter's last entry
+-- that is not voided.
 use Rattle.std.proofs.Common.{◌≡◌, ◌≤◌, ◌<◌, ℕ, ◌==◌, Bool, true, false, cond, inl, inr, List, [], ◌∷◌, Option, Some, None, option_map, refl, sym, ap, subst, ◌∙◌, arith}
 use Rattle.std.specs.Option.{option_or}
 use Rattle.std.specs.List.{AllByRecursion, Contains}
@@ -45,8 +45,8 @@ module _ (range : ℕ) (opening : Last) where
   begins_first (row ∷ rows) h =
       let rest = begins_first rows (follow_tail row rows row.stands refl h) in let more = goes_on row rows row.stands refl h in omega (arith, rest, more)
 
-  -- True if an entry is later than the meter's opening (its first entry), and no later than the
-  -- last timestamp of the meter's counter.
+  -- True if an entry is later than the meter's opening (its first entry), and not later than the
+  -- meter's last valid entry (not voided).
   pub record LiesBetween (next : EntryRow) (rows : List EntryRow) : Type 0 where
     pub later : opening.at < moment_of next.entry
     pub earlier : moment_of next.entry ≤ at_end rows
@@ -84,7 +84,8 @@ module _ (range : ℕ) (opening : Last) where
         seen_past row rows it.0.next next (λ n e. next_lies place rows it.0 n it.1 e (follow_tail row rows row.stands refl h)) (sym it.2 ∙ is) h
   ]
 
--- All quarter hours with energy between two meter entries start before the second entry.
+-- Lemmas that all quarter hours with energy between two meter entries start before the second
+-- entry.
 
 all_starts : (shares : List Share) (till : ℕ) → ((start : ℕ) → Contains (starts_of shares) start → start < till) → AllByRecursion (λ (s : Share). s.start < till) shares
 all_starts shares till each =

@@ -89,8 +89,8 @@ module _ (f : Fact) (facts : List Fact) (meter : List ℕ) (same_found : (m : Li
         own : entries_of facts meter ≡ entries_of (f ∷ facts) meter
         own = own_entries facts there ∙ sym are ∙ sym (own_entries (f ∷ facts) (same_found meter ∙ there))
 
-    -- If a meter entry follows the voided (cancelled) entry, voiding changes only this next entry's
-    -- row of `entries`.
+    -- Lemmas that, if a meter entry follows the voided (cancelled) entry, voiding changes only this
+    -- next entry's row of `entries`.
     module _ (place rolls : ℕ) where
       abbrev edit : Entered → Entered
       edit e = cond (is_entry meter place e) (with_rollovers rolls e) e
@@ -137,8 +137,8 @@ map_same : {X : Type 0} (xs : List X) → map (λ x. x) xs ≡ xs
 map_same [] = refl
 map_same (x ∷ xs) = ap (λ l. x ∷ l) (map_same xs)
 
--- The row of an entry. If the entry is the meter's entry at index `place`, the row has a new number
--- of counter rollovers.
+-- Changes the row of an entry: if the entry is the meter's entry at index `place`, the row gets a
+-- new number of counter rollovers.
 abbrev edited : (meter : List ℕ) → (place rolls : ℕ) → Entered → Entered
 edited meter place rolls e = cond (is_entry meter place e) (with_rollovers rolls e) e
 
@@ -150,8 +150,8 @@ abbrev pub next_put : Option Rejoined → List Share
 next_put None = []
 next_put (Some joined) = shares_of joined.put
 
--- True if the entry after a voided (cancelled) entry has the counter rollovers since the entry
--- before the voided entry. None means that no entry follows.
+-- True if the entry after a voided (cancelled) entry gets the number of counter rollovers since the
+-- entry before the voided entry. None means that no entry follows.
 abbrev pub HasRolls : (opening : Last) → Around → Option Rejoined → Type 0
 HasRolls opening around None = around.next ≡ None
 HasRolls opening around (Some joined) =
@@ -173,8 +173,8 @@ pub record IsLeft (facts : List Fact) (o : Opening) (place : ℕ) (made : Correc
   pub last : made.last ≡ stands_at (cond (is_none made.next) (last_before (opened o) around) (installation_of facts o).last) total
   pub from : made.from ≡ gone_from o.at made.last.moment
 
--- True if the energy up to the next meter entry may be added to `intervals`: no row then exceeds
--- the greatest total of a meter.
+-- True if the energy that voiding (cancelling) an entry adds may be added to `intervals`: no row
+-- then has more energy than the greatest total of a meter.
 abbrev pub may_put : (meter : List ℕ) → Option Rejoined → List Interval → Type 0
 may_put meter None is = Unit {0}
 may_put meter (Some joined) is = AreSmall (with_shares meter (shares_of joined.put) is)
@@ -204,8 +204,8 @@ within_sum n (row ∷ rows) h =
     let parts = sum_by-cons (λ (row : Share). row.mwh) row rows in
     (omega (arith, h, parts), within_sum n rows (omega (arith, h, parts)))
 
--- True if the time between two meter entries is positive, and the second entry is at `bound` or
--- earlier.
+-- True if the time between two meter entries is positive, and the second entry is at the given time
+-- or earlier.
 abbrev IsBefore : ℕ → Step → Type 0
 IsBefore bound step = (step.from < step.till) × (step.till ≤ bound)
 

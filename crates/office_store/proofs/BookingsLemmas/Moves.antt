@@ -68,8 +68,8 @@ module _ {X : Type 0} (p : X → Bool) (f h : X → X) (keeps : (x : X) → p (f
     others = λ t off. two.others t off ∙ one.others t off;
   }
 
--- If an entry closes a meter, updating its last entry and then marking it as closed has the effect
--- `Settles`: the update of the meter's row.
+-- If an entry closes a meter, two updates of the meter's row set its last entry and then mark the
+-- meter as closed. Together they have the effect `Settles` of one update.
 pub settles_closed : (meter : List ℕ) (last : LastRow) (content mid after : Content) → Edits meter_tree.installations installed_columns (changed_where (is_meter meter) (moved last)) content mid
     → Edits meter_tree.installations installed_columns (changed_where (is_meter meter) ended) mid after → Settles meter last true content after
 settles_closed meter last content mid after one two = edited_twice (is_meter meter) (moved last) ended (λ i. refl) meter_tree.installations installed_columns content mid after one two

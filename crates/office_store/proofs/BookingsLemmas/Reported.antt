@@ -68,7 +68,8 @@ read_shape k e is = by_read HasShape (λ at raw rolls. tt) k e is
 read_kind : (k : EntryKind) (e : Entry) → is_read k e ≡ true → is_reading k ≡ true
 read_kind k e is = by_read (λ k e. is_reading k ≡ true) (λ at raw rolls. refl) k e is
 
--- If an entry of a reading is read from its row of `entries`, it equals the recorded entry.
+-- If a reading's row of `entries` is converted to a meter entry, the result equals the recorded
+-- entry.
 reported_entry : (row : stored.EntryRow) (e : Entry) (sf : ℤ) (is : EntryRow) → IsReadingOf row e → row ≡ entry_row sf is → is_read is.kind is.entry ≡ true → e ≡ is.entry
 reported_entry row e sf is reading row_is read =
     reading.step ∙ ap (λ (r : stored.EntryRow). entry.Step r.moment r.raw r.rolls) row_is ∙ read_back is.kind is.entry read
@@ -180,7 +181,7 @@ module _ (v : VoidedEntry) (facts : List Fact) (lawful : AreLawful (fact.Void v 
   abbrev before : Last
   before = last_before (opened o) around
 
-  -- The table `voids` has a row for an entry exactly if the meter's history marks the entry as
+  -- The table `voids` has a row for an entry if and only if the meter's history marks the entry as
   -- voided (cancelled).
   named_at : (place : ℕ) → names v.meter place vs ≡ is_voided place lines
   named_at place = names_are facts v.meter place ∙ ap (λ m. is_voided place (journal_of facts m)) (sym name)

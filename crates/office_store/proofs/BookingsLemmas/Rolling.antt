@@ -23,8 +23,8 @@ use Rattle.store_tables.specs.Entries.Rows.{Entered, is_entry, rolled as with_ro
 use Rattle.office_store.specs.Rows.{rolls_of, entry_row, entered, opening_row, scale_after, entered_rows}
 use Rattle.office_store.proofs.MeteringLemmas.Shapes.{IsBelow, below, FoundThere, found_rest, found_there}
 
--- True if the next entry that is not voided (cancelled) is the only entry at its index, and its
--- index is greater than `place`.
+-- True if `next` is an entry that is not voided (cancelled), its index is greater than `place`, and
+-- no other row has this index.
 pub record IsNextThere (place : ℕ) (next : EntryRow) (rows : List EntryRow) : Type 0 where
   pub each : AllByRecursion (FoundThere next.place next) rows
   pub stands : next.stands ≡ true
@@ -36,8 +36,8 @@ stands_if : (b : Bool) (row next : EntryRow) → row.stands ≡ b → (let o : O
 stands_if true row next is h = (is, same_Some row next h)
 stands_if false row next is h = absurd (let e = h in cc)
 
--- If a row is added to a meter's history, the properties of the next entry that is not voided
--- (cancelled) still hold.
+-- Suppose that the next entry that is not voided (cancelled) has the properties of `IsNextThere` in
+-- a meter's history. It also has them after a row is added to the history.
 past : (place : ℕ) (row : EntryRow) (rows : List EntryRow) (o : Option EntryRow) (next : EntryRow) → AreNumbered (row ∷ rows) → place ≤ length rows + 1
     → ((n : EntryRow) → o ≡ Some n → IsNextThere place n rows) → option_or o (if_standing row) ≡ Some next → IsNextThere place next (row ∷ rows)
 past place row rows (Some m) next numbered low before whole =
@@ -134,8 +134,8 @@ module _ (o : Opening) where
   rolled_scale true last row rows rest more = same_scale row.stands row (record row { entry = with_rolls last row.entry }) rows rest refl refl (λ l. sf_rolled last l row.entry) more
   rolled_scale false last row rows rest more = same_scale row.stands row row rows rest refl refl (λ l. refl) more
 
-  -- True if a row is a reading, provided that it has the index `place` of the voided (cancelled)
-  -- entry.
+  -- States that, if a row has the index `place` of the voided (cancelled) entry, the row is a
+  -- reading. States nothing about other rows.
   abbrev pub IsRead : (place : ℕ) → EntryRow → Type 0
   IsRead place row = row.place ≡ place → is_read row.kind row.entry ≡ true
 
@@ -159,8 +159,8 @@ module _ (o : Opening) where
 
   -- Lemmas on the rows of `entries` after a meter entry was voided (cancelled).
 
-  -- When an entry is voided (cancelled), each row of `entries` changes as the corresponding row of
-  -- the meter's history.
+  -- Lemmas that, when an entry is voided (cancelled), each row of `entries` changes in the same way
+  -- as the corresponding row of the meter's history.
   module _ (place : ℕ) (next : Option EntryRow) (last : Last) (edit : Entered → Entered) where
     abbrev pub IsEdited : EntryRow → Type 0
     IsEdited row = (s : ℤ) → entered o.meter (entry_row s (changed_by place next last row)) ≡ edit (entered o.meter (entry_row s row))
@@ -182,8 +182,8 @@ module _ (o : Opening) where
   pub none_next : (place : ℕ) (last : Last) (row : EntryRow) → IsEdited place None last (λ e. e) row
   none_next place last row s = ap (entered o.meter) (struck_or_not (row.place == place) last row s)
 
-  -- If an entry follows the voided (cancelled) entry of a meter, voiding changes only the row of
-  -- this next entry in `entries`.
+  -- Lemmas that, if an entry follows the voided (cancelled) entry of a meter, voiding changes only
+  -- the row of this next entry in `entries`.
   module _ (place : ℕ) (next : EntryRow) (last : Last) (following : place < next.place) (stands : next.stands ≡ true) (read : is_read next.kind next.entry ≡ true) where
     abbrev pub rolls : ℕ
     rolls = rolls_of (with_rolls last next.entry)

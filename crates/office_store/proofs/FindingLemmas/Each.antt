@@ -33,8 +33,8 @@ module _ {X A : Type 0} (Is : X → A → Type 0) where
   each_filter p q agree (x ∷ xs) [] h = absurd h
   each_filter p q agree (x ∷ xs) (a ∷ vs) h = filter_step (p x) p q x a xs vs refl (sym (agree x a h.0)) h.0 (each_filter p q agree xs vs h.1)
 
-  -- If two lists of values were read from the same rows, the relation `Same` holds between the
-  -- values at each index.
+  -- Suppose that two lists have values of the same rows, and that any two values of one row are in
+  -- the relation `Same`. Then `Same` holds between the values at each index.
   pub each_same : {B : Type 0} (Seen : X → B → Type 0) (Same : A → B → Type 0) → ((x : X) (a : A) (b : B) → Is x a → Seen x b → Same a b)
       → (xs : List X) (vs : List A) (bs : List B) → AreEach Is xs vs → AreEach Seen xs bs → AreEach Same vs bs
   each_same Seen Same same [] [] [] h k = tt

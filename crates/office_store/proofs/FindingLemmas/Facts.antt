@@ -141,8 +141,8 @@ devices_read facts vs h =
     (reverse (placed added (devices_in facts))) (reverse (devices_in facts)) vs
     (each_reverse _ (placed added (devices_in facts)) (devices_in facts) (each_placed added (devices_in facts))) h)
 
--- The query for a device's accounting registers (named energy counters) returns a row for each of
--- these registers, in order.
+-- Lemmas that the query for a device's accounting registers (named energy counters) returns a row
+-- for each of these registers, in order.
 
 abbrev pub RegisterRowOf : Registered → Register → Type 0
 RegisterRowOf y r = (place : ℕ) × (y ≡ registered place r)
@@ -172,7 +172,8 @@ pub registers_counted : (facts : List Fact) (device : List ℕ) → length (filt
 registers_counted facts device =
     each_length RegisterRowOf _ _ (registers_are facts device) ∙ sym (length-reverse (filter (λ (r : Register). same r.device device) (registers_in facts)))
 
--- One more than the greatest number in the table `polls` is the number of recorded polls plus 1.
+-- The number of the next poll, one more than the greatest number in the table `polls`, is the
+-- number of recorded polls plus 1.
 
 pub polls_counted : (facts : List Fact) (last : Option ℕ) → AreLawful facts → IsLast every HasNumber poll_number (map started (polls_in facts)) last → next_place last ≡ length (polls_in facts) + 1
 polls_counted facts last lawful h = count (polls_in facts) (numbered facts lawful) h
@@ -217,7 +218,8 @@ pending_read facts vs h =
     each_equal _ vs
     (each_same (λ (y : Started) (p : Poll). y ≡ started p) IsPollOf (λ a b. b ≡ a) (λ y p v is seen. seen p is) (map started (pending_in facts)) (pending_in facts) vs (each_map started (pending_in facts)) h)
 
--- A query by name or number finds the only record that has this name or number.
+-- Lemmas that a query by name finds the only accounting register (a named energy counter) that has
+-- this name.
 
 register_only : (facts : List Fact) (name : List ℕ) (found : Option list_register.Register) → AreLawful facts
     → IsFound (is_register name) IsRegister (placed registered (registers_in facts)) found → IsOnly RegisterRowOf IsRegister (is_register name) (λ (r : Register). same r.name name) (registers_in facts) found
@@ -241,7 +243,8 @@ register_fault facts name row e is h =
     let it = found_sound IsRegister (is_register name) IsReadableRegister (placed registered (registers_in facts)) row h.1 in
     less_sound (HasReadableRegisters facts) (IsReadableRegister it.0) it.2 e (register_found row (Err e) (sym is) it.0 it.1).fault
 
--- At most one row of `polls` has a given number, so a query by number finds the recorded poll.
+-- Lemmas that at most one row of `polls` has a given number, so a query by number finds the
+-- recorded poll.
 
 abbrev pub PollRowOf : Started → Poll → Type 0
 PollRowOf y p = y ≡ started p
@@ -284,7 +287,7 @@ no_poll_past facts number lawful past = sym (ap (option_map (poll_row facts)) (n
     none (fact.Outcome e ∷ facts) h = none facts h.1
     none (fact.Reply r ∷ facts) h = none facts h.1
 
--- A query finds the recorded outcome of a poll, because no poll has two outcomes.
+-- Lemmas that a query finds the recorded outcome of a poll, because no poll has two outcomes.
 
 abbrev pub EndRowOf : OutcomeRow → EndedPoll → Type 0
 EndRowOf y e = y ≡ outcome_row e

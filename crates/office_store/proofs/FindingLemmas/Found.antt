@@ -31,8 +31,8 @@ module _ {S : Type 0} (g : Ghosts S) (old new : Held S) where
   pub become : {A : Type 0} (o a : A) (P : List Fact → A → Type 0) (s : List Fact → Type 0) → o ≡ a → Finds g old new (Ok o) P s → Finds g old new (Ok a) P s
   become o a P s is one = subst (λ x. Finds g old new (Ok x) P s) is one
 
-  -- If a look-up reports `Damaged` only for some invalid records, it also satisfies a contract that
-  -- permits `Damaged` for more invalid records.
+  -- If a look-up satisfies its contract with one condition for reporting `Damaged`, it also
+  -- satisfies the contract with any weaker condition.
   pub less_reported : {A : Type 0} (r : Result A RowFault) (P : List Fact → A → Type 0) (s t : List Fact → Type 0) → ((facts : List Fact) → t facts → s facts) → Finds g old new r P s → Finds g old new r P t
   less_reported r P s t weaker one = record {
     answer = one.answer;
@@ -52,8 +52,8 @@ module _ {S : Type 0} (g : Ghosts S) (old new : Held S) where
     looks = one.looks;
   }
 
-  -- If a query returns a value that can't be converted, the look-up may report the failed
-  -- conversion, provided that the records are invalid.
+  -- If a query returns a value that can't be converted because the records are invalid, the
+  -- contract permits the look-up to report the failed conversion.
   pub unread : {A B : Type 0} (a : A) (e : RowFault) (r : Result B RowFault) (P : List Fact → A → Type 0) (Q : List Fact → B → Type 0) (s t : List Fact → Type 0)
       → Finds g old new (Ok a) P s → ((facts : List Fact) → P facts a → IsRowFault (t facts) e) → IsErrAnd r (λ d. d ≡ e) → Finds g old new r Q t
   unread a e (Ok b) P Q s t one fair fails = absurd fails

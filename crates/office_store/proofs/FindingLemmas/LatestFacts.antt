@@ -16,7 +16,8 @@ use Rattle.office_books.specs.Facts.{as_opening, as_entry, as_hold, as_void, as_
 use Rattle.office_store.specs.Finding.Latest.{greatest, latest_entered, latest_voided, latest_held, latest_started, latest_ended, latest_replied}
 use Rattle.office_store.proofs.FindingLemmas.Greatest.{none_past}
 
--- The latest timestamp of each kind of record is at most the latest timestamp of all records.
+-- Lemmas that the latest timestamp of each kind of record is at most the latest timestamp of all
+-- records.
 
 module _ {X : Type 0} (pick : Fact → Option X) (moment : X → ℕ) (own : (f : Fact) (x : X) → pick f ≡ Some x → moment x ≡ moment_in f) where
   step : (f : Fact) (facts : List Fact) (o : Option X) → pick f ≡ o → greatest moment (filter_map pick facts) ≤ latest_in facts → greatest moment (cons_option o (filter_map pick facts)) ≤ max (moment_in f) (latest_in facts)
@@ -55,8 +56,8 @@ reply_at : (f : Fact) (x : Reply) → as_reply f ≡ Some x → x.at ≡ moment_
 reply_at (fact.Reply y) x is = let same_one : x ≡ y = cc in ap (λ (r : Reply). r.at) same_one
 reply_at f x is = absurd (let none = is in cc)
 
--- The latest timestamp of all records is at most the greatest of the latest timestamps of each kind
--- of record.
+-- Lemmas that the latest timestamp of all records is at most the greatest of the latest timestamps
+-- of each kind of record.
 
 max_least : (a b c : ℕ) → a ≤ c → b ≤ c → max a b ≤ c
 max_least a b c h k = omega arith

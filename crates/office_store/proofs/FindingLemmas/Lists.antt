@@ -42,7 +42,8 @@ use Rattle.office_store.proofs.FindingLemmas.Each.{each_same, each_equal}
 use Rattle.office_store.proofs.FindingLemmas.Ordered.{Rises, one_order}
 use Rattle.office_store.proofs.FindingLemmas.ReadRows.{fair_if, fair_ok}
 
--- If all points of a list have a property, each row of `points` encodes a point with this property.
+-- Lemmas that, if all points of a list have a property, each row of `points` encodes a point with
+-- this property.
 
 module _ {X Y : Type 0} (row : ℕ → X → Y) where
   each_on : (P : X → Type 0) (before : ℕ) (xs : List X) → AllByRecursion P xs → AreEach (λ y x. (place : ℕ) × (y ≡ row place x) × P x) (placed_on row before xs) xs
@@ -58,7 +59,7 @@ module _ {X Y : Type 0} (row : ℕ → X → Y) where
     on_rises before [] = tt
     on_rises before (x ∷ xs) = (on_above (key (row (before + 1) x)) (before + 1) xs (let is = keyed (before + 1) x in omega (arith, is)), on_rises (before + 1) xs)
 
--- If a point list obeys the rules, the texts in its rows of `points` can be parsed.
+-- Lemmas that, if a point list obeys the rules, the texts in its rows of `points` can be parsed.
 
 suits_of : (points : List ListedPoint) (point : ListedPoint) (scale : PointScale) → HasLawfulScale points point scale → Suits point.kind scale
 suits_of points point Unscaled h = tt
@@ -92,7 +93,7 @@ all_spelled points l = recursion_from_All IsSpelled points (λ k d below.
           (some_there (scale_point points name) (IsGroup p) (subst (λ (scale : PointScale). HasLawfulScale points p scale) is scaled).1))).0;
     })
 
--- Reading one row of `points` returns the point that the row encodes.
+-- Lemmas that reading one row of `points` returns the point that the row encodes.
 
 never : {A : Type 0} (S : Type 0) (Is : A → Type 0) → (S → ⊥) → IsFair S Is (Err Damaged)
 never S Is none = record { read = tt; fault = none }

@@ -21,7 +21,8 @@ use Rattle.office_store.specs.Tables.{AreOf}
 use Rattle.office_store.specs.Holding.{HasFacts, HoldsFacts, OnlyLooks}
 use Rattle.office_store.specs.Finding.Finding.{Finds, OfLawful}
 
--- A look-up (a query for records) changes no record, so a second look-up sees the same records.
+-- Lemmas that a look-up (a query for records) changes no record, so a second look-up sees the same
+-- records.
 
 module _ {S : Type 0} (g : Ghosts S) (zone : List ℕ) where
   pub holds_on : (old new : Held S) (facts : List Fact) → OnlyLooks g zone old new → HoldsFacts g zone old facts → HoldsFacts g zone new facts
@@ -48,8 +49,8 @@ module _ {S : Type 0} (g : Ghosts S) (zone : List ℕ) where
     goes = λ facts holds clean. still_goes (state g a);
   }
 
--- After the check that the database is open succeeded, a query sees the committed rows and returns
--- the result of the look-up.
+-- Lemmas that, after the check that the database is open succeeded, a query sees the committed rows
+-- and returns the result of the look-up.
 
 -- The state of a connection after the check that the database is open succeeded. Queries then see
 -- the committed rows.
@@ -65,8 +66,8 @@ pub record HasSeen {S : Type 0} (g : Ghosts S) (zone : List ℕ) (mid : Held S) 
   pub tables : AreTables (state g mid).now content
   pub are : AreOf zone facts content
 
--- True if the rows of one table determine an answer about the records, and the table's rows can be
--- read whenever the records' rows can.
+-- True if every answer that follows from the rows of a table is correct for the records. If the
+-- records' values are in their ranges, so are the rows' values.
 pub record IsReported {A X : Type 0} (facts : List Fact) (content : Content) (tree : ℕ) (columns : X → Row) (IsSound : X → Type 0) (Answers : List X → A → Type 0) (Says : List Fact → A → Type 0) (AreSound : List Fact → Type 0) : Type 0 where
   pub rows : List X
   pub there : HasRows tree columns rows content

@@ -32,7 +32,7 @@ use Rattle.office_store.specs.Finding.Latest.{greatest, latest_entered}
 use Rattle.office_store.proofs.FindingLemmas.Greatest.{permuted, none_past, at_most, below}
 use Rattle.office_store.proofs.FindingLemmas.Lists.{all_found}
 
--- The timestamps in a meter's history are those of its entries.
+-- Lemmas that the timestamps in a meter's history are those of its entries.
 
 abbrev moments_in : Journal → List ℕ
 moments_in [] = []
@@ -70,8 +70,8 @@ journal_moments opening (Entered k e ∷ lines) = ap (λ ms. moment_of e ∷ ms)
 journal_moments opening (Held reading cause ∷ lines) = journal_moments opening lines
 journal_moments opening (Voided place ∷ lines) = void_moments opening place (rows_of opening lines) ∙ journal_moments opening lines
 
--- If a property holds for all timestamps of a meter's entries, it holds for the timestamps in its
--- rows of `entries`.
+-- Lemmas that, if a property holds for all timestamps of a meter's entries, it holds for the
+-- timestamps in its rows of `entries`.
 
 module _ (P : ℕ → Type 0) where
   entered_all : (o : Opening) (rows : List EntryRow) → AllByRecursion P (moments_of rows) → P o.at → AllByRecursion (λ e. P (entry_moment e)) (entered_rows o rows)
@@ -122,7 +122,8 @@ module _ (P : ℕ → Type 0) where
   journal_back meter (fact.Outcome e ∷ facts) h = journal_back meter facts h
   journal_back meter (fact.Reply r ∷ facts) h = journal_back meter facts h
 
--- The timestamps of all recorded meter entries are the timestamps in the histories of all meters.
+-- Lemmas that the timestamps of all recorded meter entries are the timestamps in the histories of
+-- all meters.
 
 some_after : {X : Type 0} (b : Bool) (x : X) (o : Option X) → is_some o ≡ true → is_some (cond b (Some x) o) ≡ true
 some_after true x o h = refl
@@ -185,7 +186,8 @@ module _ (facts : List Fact) (n : ℕ) where
   pub entries_below : (meter : List ℕ) → latest_entered facts ≤ n → AllByRecursion (λ e. Early (entry_moment e)) (entries_of facts meter)
   entries_below meter h = below_found meter (opening_of facts meter) refl h
 
--- The latest timestamp in the table `entries` is the latest timestamp of all meters' entries.
+-- Lemmas that the latest timestamp in the table `entries` is the latest timestamp of all meters'
+-- entries.
 
 all_own : (P : entries.Entered → Type 0) (p : entries.Entered → Bool) (rows : List entries.Entered) → AllByRecursion P (filter p rows) → AllByRecursion (λ e. p e ≡ true → P e) rows
 all_own P p rows h =

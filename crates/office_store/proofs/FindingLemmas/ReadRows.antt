@@ -38,8 +38,8 @@ use Rattle.office_store.proofs.FindingLemmas.Each.{each_append}
 -- row's reader.
 
 module _ {A B X : Type 0} (row : Row) (shown : X → Row) (Seen : X → A → Type 0) (Is : X → B → Type 0) (S T : X → Type 0) where
-  -- If a row can be read, and its value can be converted, the result is the value that the row
-  -- encodes.
+  -- If a row can be read, and the value is then converted correctly, the result is the value that
+  -- the row encodes.
   pub reads_then : (a : A) (r : Result B RowFault) → ReadsRow row shown Seen S (Ok a) → ((x : X) → Seen x a → IsFair (T x) (Is x) r) → ReadsRow row shown Is T r
   reads_then a r one fair = record { read = λ x is. (fair x (one.read x is)).read; fault = λ x is. (fair x (one.read x is)).fault }
 
@@ -61,7 +61,7 @@ fair_ok Sound Is x is = record { read = is; fault = tt }
 within : (low high n : ℕ) → (low ≤ n) × (n ≤ high) → nat_le low n && nat_le n high ≡ true
 within low high n h = both _ _ (le-leb low n h.0) (le-leb n high h.1)
 
--- Reading a row of `devices` returns the device that the row encodes.
+-- Lemmas that reading a row of `devices` returns the device that the row encodes.
 
 device_as : Added → Device
 device_as x = record { name = x.name; unit = x.row.unit; timeout = x.row.timeout; window = x.row.window }
@@ -83,8 +83,8 @@ fair_device x =
 pub device_found : (a : list_device.Device) (r : Result Device RowFault) → r ≡ device_with (string_bytes a.name) a.row → (x : Added) → IsDevice x a → IsFair (IsReadableDevice x) (IsDeviceOf x) r
 device_found a r is x seen = subst (IsFair (IsReadableDevice x) (IsDeviceOf x)) (sym (is ∙ ap₂ device_with seen.name seen.row)) (fair_device x)
 
--- Reading a row of `registers` returns the accounting register (a named energy counter) that the
--- row encodes.
+-- Lemmas that reading a row of `registers` returns the accounting register (a named energy counter)
+-- that the row encodes.
 
 source_back : (s : ScaleSource) → source_from (scale_as s) ≡ s
 source_back (source.Fixed sf) = refl
@@ -112,7 +112,7 @@ pub register_found : (a : list_register.Register) (r : Result Register RowFault)
 register_found a r is x seen =
     subst (IsFair (IsReadableRegister x) (IsRegisterOf x)) (sym (is ∙ (λ i. register_with (seen.name i) (seen.device i) (seen.row i)))) (fair_register x)
 
--- Reading a row of `polls` returns the poll that the row encodes.
+-- Lemmas that reading a row of `polls` returns the poll that the row encodes.
 
 span_of : (f : ReadFunction) (a c : ℕ) → 1 ≤ c → c ≤ 125 → a + c ≤ 65536 → ReadSpan
 span_of f a c s w i = record { function = f; address = a; count = c; some = s; few = w; inside = i }
@@ -150,7 +150,7 @@ poll_found a (Ok p) has fair x seen = record {
 }
 poll_found a (Err e) has fair x seen = record { read = tt; fault = subst (IsRowFault (IsReadablePoll x)) (sym fair.0) (λ s. fair.1 (ap is_name seen.device ∙ s.device)) }
 
--- Reading several rows one by one returns their values in order.
+-- Lemmas that reading several rows one by one returns their values in order.
 
 at_index : {X : Type 0} (shown : X → Row) (xs : List X) (i : ℕ) (row : Row) → i < length (map shown xs) → row ≡ get_or (map shown xs) i row
     → (x : X) × (row ≡ shown x) × (take (suc i) xs ≡ take i xs ++ x ∷ [])

@@ -13,7 +13,8 @@ use Rattle.office_store.specs.Finding.Each.{AreEach}
 use Rattle.office_store.proofs.FindingLemmas.Each.{each_append, each_filter, each_length}
 use Rattle.office_store.proofs.FindingLemmas.Ordered.{Rises, NeverFalls, one_order}
 
--- Lemmas on rows in the order of their keys: reversing a list with descending keys sorts it.
+-- Lemmas on rows in the order of their keys: reversing a list with descending keys sorts the list
+-- in ascending order.
 
 module _ {X A : Type 0} (Is : X → A → Type 0) where
   pub each_reverse : (xs : List X) (vs : List A) → AreEach Is xs vs → AreEach Is (reverse xs) (reverse vs)
@@ -57,7 +58,8 @@ module _ {X Y : Type 0} (row : ℕ → X → Y) where
     placed_falls [] = tt
     placed_falls (x ∷ xs) = (few (key (row (length xs + 1) x)) xs (let is = keyed (length xs + 1) x in omega (arith, is)), placed_falls xs)
 
--- If at most one row passes a test, a query returns the element that the row encodes, or None.
+-- Lemmas that, if at most one row passes a test, a query returns the element that the row encodes,
+-- or None.
 
 module _ {X A B : Type 0} (Is : X → A → Type 0) (Seen : X → B → Type 0) (p : X → Bool) (q : A → Bool) where
   -- True if a query found the only element that passes a test, or None because no element passes

@@ -1,5 +1,5 @@
--- The SQL statements on `holds` (the table of rejected readings), and what SQLite's parser makes of
--- them.
+-- The SQL statements on `holds` (the table of rejected readings), and what SQLite's parser returns
+-- for these statements.
 use Rattle.std.proofs.Common.{◌≡◌, List, [], ◌∷◌, codes, ℕ, pos, false, refl}
 use Rattle.sqlite.specs.declared.types.Value.TheVariants.{Int, Text}
 use Rattle.sqlite.specs.Term.{Term, col}
@@ -22,7 +22,8 @@ order = (col 1 0, rising) ∷ []
 abbrev pub names : List (List ℕ)
 names = codes "poll" ∷ codes "moment" ∷ codes "raw" ∷ codes "sf" ∷ codes "cause" ∷ []
 
--- Lemmas on the SQL text of the query `meter_holds`, and what SQLite parses from it.
+-- Lemmas on the SQL text of `meter_holds` (a SELECT of a meter's rejected readings), and on what
+-- SQLite parses from this text.
 
 abbrev pub meter_holds : List ℕ
 meter_holds = codes "SELECT poll, moment, raw, sf, cause FROM holds WHERE meter = ?1 ORDER BY place"
@@ -46,7 +47,8 @@ pub meter_holds_suits : (meter : List ℕ) → Suits books_schema meter_holds (T
 unfolding understood everything
 meter_holds_suits meter = suits_scan 12 meter_holds_tests project order no_limit meter_holds names (Text meter ∷ []) (refl, refl, refl) meter_holds_plain meter_holds_unlisted meter_holds_is refl
 
--- Lemmas on the SQL text of the query `meter_holds_between`, and what SQLite parses from it.
+-- Lemmas on the SQL text of `meter_holds_between` (a SELECT of a meter's rejected readings in a
+-- time span), and on SQLite's parse of this text.
 
 abbrev pub between : List ℕ
 between = codes "SELECT poll, moment, raw, sf, cause FROM holds WHERE meter = ?1 AND moment >= ?2 AND moment < ?3 ORDER BY place"

@@ -83,8 +83,8 @@ in_both a b c d le =
       | inr same ↦ inr (same.0, in_order c d same.1)
     ]
 
--- The query for an accounting register (a named energy counter) returns the rows of `intervals` for
--- the register's meters.
+-- Lemmas that the query for an accounting register (a named energy counter) returns the rows of
+-- `intervals` for the register's meters.
 
 map-pairs : {A B C D : Type 0} (f : A → C) (g : B → D) (xs : List A) (ys : List B) → map (λ (p : A × B). (f p.0, g p.1)) (pairs xs ys) ≡ pairs (map f xs) (map g ys)
 map-pairs {A} {B} {C} {D} f g [] ys = refl

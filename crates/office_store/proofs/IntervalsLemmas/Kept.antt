@@ -46,7 +46,7 @@ upserted meter start mwh ks =
     if list_any (is_kept meter start) ks then changed_where (is_kept meter start) (adds mwh) ks
     else (record { meter = meter; start = start; energy = Int (pos mwh) }) ∷ ks
 
--- SQLite's sum of two energies in mWh is exact, because the sum is less than 2^63.
+-- Lemmas that SQLite's sum of two energies in mWh is exact, because the sum is less than 2^63.
 
 fits : (n : ℕ) → n < 2 ^ 63 → if_fits (pos n) ≡ Some (pos n)
 fits n h = grind (arith, nat_tests)
@@ -55,7 +55,7 @@ sum_is : (a b : ℕ) → a + b < 2 ^ 63 → binary (Arith Add) (Int (pos a)) (In
 unfolding binary
 sum_is a b h = rw (fits (a + b) h)
 
--- An UPDATE that adds energy to a row of `intervals` stores the increased energy.
+-- Lemmas that an UPDATE that adds energy to a row of `intervals` stores the increased energy.
 
 any_kept : (meter : List ℕ) (start : ℕ) (is : List Interval) → list_any (is_kept meter start) (map kept_of is) ≡ list_any (is_at meter start) is
 any_kept meter start [] = refl
@@ -82,7 +82,8 @@ added_share meter share is small = elim (cases_Bool (list_any (is_at meter share
   | inr none ↦ rw (any_kept meter share.start is, none) refl
 ]
 
--- An edit of the stored rows of `intervals` is an edit of the quarter hours that the rows encode.
+-- Lemmas that a change of the stored rows of `intervals` makes the corresponding change to the
+-- quarter hours that the rows encode.
 
 columns_of : (is : List Interval) → map kept_columns (map kept_of is) ≡ map interval_columns is
 columns_of is = map-map kept_columns kept_of is

@@ -59,8 +59,8 @@ no_edit May content after same = record {
   others = λ t off. ap (λ (f : Content). f t) same;
 }
 
--- Adding energy to `intervals` one quarter hour after another has the effect of adding all quarter
--- hours at once.
+-- Lemmas that adding energy to `intervals` one quarter hour after another has the effect of adding
+-- all quarter hours at once.
 
 raised_small : (meter : List ℕ) (start mwh : ℕ) (is : List Interval) → AreSmall (changed_where (is_at meter start) (raised mwh) is) → AreSmall is
 raised_small meter start mwh [] small = tt

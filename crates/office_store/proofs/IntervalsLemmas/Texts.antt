@@ -1,5 +1,5 @@
--- The SQL statements on `intervals` (energy by quarter hour), and what SQLite's parser makes of
--- them.
+-- The SQL statements on `intervals` (energy by quarter hour), and what SQLite's parser returns for
+-- these statements.
 use Rattle.std.proofs.Common.{◌≡◌, List, [], ◌∷◌, codes, ℕ, pos, negsuc, false, Some, None, inl, inr, refl}
 use Rattle.sqlite.specs.declared.types.Value.TheVariants.{Null, Int, Text}
 use Rattle.sqlite.specs.Order.{Row}
@@ -26,7 +26,8 @@ use Rattle.store_tables.proofs.Failures.{Suits, suits_scan}
 use Rattle.store_tables.proofs.Scans.{scan, no_limit, is_param, rising}
 use Rattle.office_store.proofs.StreamsLemmas.Compared.{is_at_least, is_below}
 
--- Lemmas on the SQL text of the statement `add_share`, and what SQLite parses from it.
+-- Lemmas on the SQL text of `add_share` (an upsert that adds energy to a row of `intervals`), and
+-- on what SQLite parses from this text.
 
 abbrev pub add_share : List ℕ
 add_share = codes "INSERT INTO intervals (meter, start, mwh) VALUES (?1, ?2, ?3) ON CONFLICT (meter, start) DO UPDATE SET mwh = mwh + excluded.mwh"
@@ -55,7 +56,8 @@ pub add_share_plain : IsPlain (understood books_schema add_share)
 unfolding understood everything
 add_share_plain = (refl, refl)
 
--- Lemmas on the SQL text of the statement `insert_row`, and what SQLite parses from it.
+-- Lemmas on the SQL text of `insert_row` (an INSERT into `intervals`), and on what SQLite parses
+-- from this text.
 
 abbrev pub insert_row : List ℕ
 insert_row = codes "INSERT INTO intervals (meter, start, mwh) VALUES (?1, ?2, ?3)"
@@ -71,7 +73,8 @@ pub insert_row_plain : IsPlain (understood books_schema insert_row)
 unfolding understood everything
 insert_row_plain = (refl, refl)
 
--- Lemmas on the SQL text of the statement `drop_rows`, and what SQLite parses from it.
+-- Lemmas on the SQL text of `drop_rows` (a DELETE of a meter's rows of `intervals`), and on what
+-- SQLite parses from this text.
 
 abbrev pub drop_rows : List ℕ
 drop_rows = codes "DELETE FROM intervals WHERE meter = ?1"
@@ -87,7 +90,8 @@ pub drop_rows_plain : IsPlain (understood books_schema drop_rows)
 unfolding understood everything
 drop_rows_plain = (refl, refl)
 
--- Lemmas on the SQL text of the query `meter_intervals`, and what SQLite parses from it.
+-- Lemmas on the SQL text of `meter_intervals` (a SELECT of a meter's energy by quarter hour), and
+-- on what SQLite parses from this text.
 
 abbrev pub meter_intervals : List ℕ
 meter_intervals = codes "SELECT start, mwh FROM intervals WHERE meter = ?1 ORDER BY start"
@@ -120,7 +124,8 @@ pub meter_intervals_suits : (meter : List ℕ) → Suits books_schema meter_inte
 unfolding understood everything
 meter_intervals_suits meter = suits_scan 14 meter_intervals_tests shares_project meter_intervals_order no_limit meter_intervals names (Text meter ∷ []) (refl, refl, refl) meter_intervals_plain meter_intervals_unlisted meter_intervals_is refl
 
--- Lemmas on the SQL text of the query `meter_intervals_between`, and what SQLite parses from it.
+-- Lemmas on the SQL text of `meter_intervals_between` (a SELECT of a meter's energy in a time
+-- span), and on what SQLite parses from this text.
 
 abbrev pub meter_between : List ℕ
 meter_between = codes "SELECT start, mwh FROM intervals WHERE meter = ?1 AND start >= ?2 AND start < ?3 ORDER BY start"
@@ -145,7 +150,8 @@ unfolding understood everything
 meter_between_suits meter from till =
     suits_scan 14 meter_between_tests shares_project meter_intervals_order no_limit meter_between names (Text meter ∷ Int (pos from) ∷ Int (pos till) ∷ []) (refl, refl, refl) meter_between_plain meter_between_unlisted meter_between_is refl
 
--- Lemmas on the SQL text of the query `register_intervals`, and what SQLite parses from it.
+-- Lemmas on the SQL text of `register_intervals` (a SELECT of the energy of an accounting
+-- register's meters), and on what SQLite parses from this text.
 
 abbrev pub register_intervals : List ℕ
 register_intervals = codes "SELECT intervals.start, intervals.mwh FROM installations JOIN intervals ON intervals.meter = installations.meter WHERE installations.register = ?1 ORDER BY installations.place, intervals.start"
@@ -206,7 +212,8 @@ register_intervals_suits register = record {
   flows = join_flows (Text register ∷ []);
 }
 
--- Lemmas on the SQL text of the query `register_intervals_between`, and what SQLite parses from it.
+-- Lemmas on the SQL text of `register_intervals_between` (`register_intervals`, limited to a time
+-- span), and on what SQLite parses from this text.
 
 abbrev pub register_between : List ℕ
 register_between = codes "SELECT intervals.start, intervals.mwh FROM installations JOIN intervals ON intervals.meter = installations.meter WHERE installations.register = ?1 AND intervals.start >= ?2 AND intervals.start < ?3 ORDER BY installations.place, intervals.start"

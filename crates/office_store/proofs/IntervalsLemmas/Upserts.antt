@@ -58,7 +58,8 @@ use Rattle.office_store.specs.Intervals.Trees.{intervals}
 use Rattle.office_store.proofs.IntervalsLemmas.Kept.{Kept, kept_columns, is_kept, adds, upserted}
 use Rattle.office_store.proofs.IntervalsLemmas.Texts as text
 
--- The comparisons of SQL values in an upsert agree with comparisons of Booleans and integers.
+-- Lemmas that the comparisons of SQL values in an upsert agree with comparisons of Booleans and
+-- integers.
 
 truth_back : (b : Bool) → is_true (from_truth (Some b)) ≡ b
 truth_back true = refl
@@ -93,7 +94,7 @@ differ_is : (a b : ℤ) → differ (Int a) (Int b) ≡ not (same_id a b)
 unfolding binary
 differ_is a b = truth_back _ ∙ (other_than _ ∙ ap (λ o. not (is_eq o)) (value_cmp-Int a b))
 
--- No two rows of `intervals` have equal rowids, so a rowid identifies one row.
+-- Lemmas that no two rows of `intervals` have equal rowids, so a rowid identifies one row.
 
 -- If two rows of `intervals` have equal rowids, they are the same row.
 same_row : (rows : List Row) → AreApart rows → (r s : Row) → Has rows r → Has rows s → same_id (id_of r) (id_of s) ≡ true → r ≡ s
@@ -121,7 +122,7 @@ of_one_key meter start k l here there =
     let it = key_of meter start l there in
     subst (λ m. is_kept m l.start k ≡ true) (sym it.0) (subst (λ s. is_kept meter s k ≡ true) (sym it.1) here)
 
--- Every stored row of `intervals` encodes the energy of a meter in a quarter hour.
+-- Lemmas that every stored row of `intervals` encodes the energy of a meter in a quarter hour.
 laid_row : (all : List (Numbered Kept)) (r : Row) → Has (map (lay false kept_columns) all) r → (z : Numbered Kept) × (r ≡ lay false kept_columns z)
 laid_row [] r has = absurd has
 laid_row (z ∷ all) r (inl is) = (z, is)

@@ -77,7 +77,8 @@ outcome_back (Lost lost.Restart) = refl
 one_outcome : (a b : Outcome) → outcome_number a ≡ outcome_number b → outcome_code a ≡ outcome_code b → a ≡ b
 one_outcome a b number code = undone (λ (o : Outcome). (outcome_number o, outcome_code o)) (λ (p : ℕ × ℕ). outcome_of p.0 p.1) outcome_back a b (λ i. (number i, code i))
 
--- The cause of a reading's rejection that a number encodes, or None if the number encodes no cause.
+-- The cause of a reading's rejection that a numeric code encodes, or None if the number encodes no
+-- cause.
 cause_of : ℕ → Option Cause
 cause_of n =
     if n == 1 then Some cause.NotAccumulated else

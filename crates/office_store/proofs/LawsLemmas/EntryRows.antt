@@ -54,7 +54,7 @@ scale_by o place k (entry.Change at before new set) stands rows h =
     let row : EntryRow = record { place = place; kind = k; entry = entry.Change at before new set; stands = stands } in
     sym (ap (λ es. (last_of (opened o) es).sf) (entries_standing row rows (h refl)))
 
--- If two meter entries of one kind have equal columns in the table `entries`, the entries are
+-- If two meter entries of the same kind have equal columns in the table `entries`, the entries are
 -- equal.
 entry_reported : (k : journal.EntryKind) (a b : Entry) (sf : ℤ) → sets k ≡ is_change a → sets k ≡ is_change b → HasScale a sf → HasScale b sf
     → moment_of a ≡ moment_of b → raw_of a ≡ raw_of b → rolls_of a ≡ rolls_of b → after_of a ≡ after_of b → a ≡ b

@@ -96,7 +96,8 @@ pub all_installed : (facts : List Fact) → AreLawful facts → AllByRecursion (
 all_installed facts h =
     recursion_from_All (IsInstalled facts) (openings_in facts) (each_found (λ (o : Opening). o.meter) (openings_in facts) (openings_apart facts h))
 
--- The properties that each meter's entries have if the rules accepted all records.
+-- The properties of each meter's entries if the rules accepted all records: the rows are numbered,
+-- have valid forms, and have correct void marks.
 pub record HasRows (facts : List Fact) (o : Opening) : Type 0 where
   pub numbered : AreNumbered (rows_of facts o)
   pub formed : AllByRecursion IsFormed (rows_of facts o)
@@ -130,7 +131,7 @@ held_no_line : (b : Bool) (place : ℕ) (line : journal.Line) (lines : journal.J
 held_no_line true place line lines h = h
 held_no_line false place line lines h = refl
 
--- A meter's history marks an entry as voided exactly if the records void (cancel) this entry.
+-- A meter's history marks an entry as voided if and only if the records void (cancel) this entry.
 pub voids_named : (facts : List Fact) (meter : List ℕ) (place : ℕ) → is_voided place (journal_of facts meter) ≡ list_any (names meter place) (voids_in facts)
 voids_named [] meter place = refl
 voids_named (fact.Device d ∷ facts) meter place = voids_named facts meter place

@@ -159,8 +159,8 @@ opened_files_keep_theirs layout zone facts db it after brought =
       replies = stay poll_tree.replies reply_columns (map kept (replies_in facts)) it.newest after (carried 16 refl refl refl refl) a.replies;
     }
 
--- If opening a file keeps its records, a file of version 3 encodes records exactly if its tables
--- encode the records.
+-- If opening a file keeps its records, two definitions of the encoded records agree for files of
+-- version 3. These are `HasFactsIn` (for files of any version) and `HasFacts` (for current tables).
 pub newest_files_have_theirs : OpenedFilesKeepTheirs → NewestFilesHaveTheirs
 newest_files_have_theirs keep zone facts db = (
   λ it. record {

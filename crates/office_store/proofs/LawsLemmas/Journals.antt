@@ -1,4 +1,5 @@
--- Proofs of properties of meter histories that determine the rows of each history.
+-- Proofs about the rows of a meter's history: each row fits its kind of entry, and is correctly
+-- marked as voided (cancelled) or not.
 use Rattle.std.proofs.Common.{◌≡◌, ℕ, ◌==◌, ◌&&◌, Bool, true, false, not, List, [], ◌∷◌, refl, sym, ap, subst, ◌∙◌, inl, inr, Option, Some, None}
 use Rattle.std.specs.List.{AllByRecursion}
 use Rattle.std.proofs.lemmas.Bool.{cases_Bool, cond-true, cond-false}
@@ -102,8 +103,8 @@ rows_are_formed meter (Voided place ∷ lines) h =
     let may = all_three around.row.stands (is_read around.row.kind around.row.entry) (is_free around.next) h.0.voidable in
     void_formed meter.opening place (rows_of meter.opening lines) around h.0.there may.1 (rows_are_formed meter lines h.1)
 
--- True if a row of a meter's history is marked as voided (cancelled) exactly if the records void
--- the entry with the row's index.
+-- True if a row of a meter's history has the right mark: it is marked as voided (cancelled) if and
+-- only if the history voids the entry at its index.
 abbrev pub StandsBy : Journal → EntryRow → Type 0
 StandsBy whole row = row.stands ≡ not (is_voided row.place whole)
 

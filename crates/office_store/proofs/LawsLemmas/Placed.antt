@@ -44,8 +44,8 @@ module _ {X Y : Type 0} (key : Y → ℕ) (row : ℕ → X → Y) (keyed : (plac
         placed_rise (before + 1) xs,
       )
 
--- If two lists have the same numbered rows, the relation `R` holds between their elements at each
--- index.
+-- Lemmas that, if two lists have the same numbered rows, the relation `R` holds between their
+-- elements at each index.
 module _ {X Y : Type 0} (row other : ℕ → X → Y) (R : X → X → Type 0) (reports : (m n : ℕ) (x y : X) → row m x ≡ other n y → R x y) where
   zip_placed : (xs ys : List X) → placed row xs ≡ placed other ys → AllZip R xs ys
   zip_placed [] [] e = tt

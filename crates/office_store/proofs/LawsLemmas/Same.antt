@@ -42,7 +42,8 @@ module _ (stand : RowsStand) (once : ListsArePlannedOnce) (zone others_zone : Li
       there : AllByRecursion (λ (z : List ℕ). Among z (others_zone ∷ [])) (zone ∷ [])
       there = among_permuted (zone ∷ []) (others_zone ∷ []) (one_table meta_columns one_zone (zone ∷ []) (others_zone ∷ []) (content meta_tree) a.meta b.meta)
 
-  -- Lemmas on the tables with the rows of one kind of record.
+  -- Lemmas that, if the same tables encode two lists of records, both lists have the same records
+  -- of each kind, such as devices or polls.
 
   same_devices : devices_in facts ≡ devices_in others
   same_devices =

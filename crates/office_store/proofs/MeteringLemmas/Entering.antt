@@ -77,8 +77,8 @@ journal_is journals stand change facts meter entries voids rows shown void are =
     ap reverse (are shown.entries void.voids shown.shown void.shown ∙ ap (filter_map (row_among void.voids)) (shown.all o there) ∙ journal_back journals stand change facts o void.lawful recorded void.voids all)
     ∙ reverse-reverse (rows_of facts o)
 
--- If the records have a state of a meter, the meter was installed. Its entry at an index follows
--- from the record of the installation and the later entries.
+-- If the records have a state of a meter, the meter was installed. The meter's entry at an index
+-- then follows from the record of the installation and the later entries.
 by_opening : (facts : List Fact) (place : ℕ) (whole : Installation) (found : Option EntryContext) (opening : Option Opening) → Some whole ≡ option_map (installation_of facts) opening
     → ((o : Opening) → opening ≡ Some o → whole ≡ installation_of facts o → found ≡ option_map (place_in facts o) (row_at place (rows_of facts o)))
     → found ≡ option_and_then (λ o. option_map (place_in facts o) (row_at place (rows_of facts o))) opening
@@ -123,8 +123,8 @@ placed_found facts o place whole before rows firsts index row next whole_is rows
     ∙ ap (λ (w : Installation). standing w.opening (entries_in around.before) w.ended) whole_is in
     ap (λ (b : Installation). Some (let p : EntryContext = record { before = b; row = row; next = next } in p)) was ∙ sym (ap (option_map (place_in facts o)) at)
 
--- If the earlier meter entries that are not voided (cancelled) may follow one another, the energy
--- before an entry can be computed from these entries.
+-- If the meter entry at an index satisfies `CanBePlaced`, the energy before this entry can be
+-- computed. It follows from the earlier entries that are not voided (cancelled).
 pub account_before : (o : Opening) (place index : ℕ) (rows firsts : List EntryRow) (row : EntryRow) (next : Option EntryRow) → row_at place (latest_first rows) ≡ Some (record { before = latest_first (take index rows); row = row; next = next })
     → firsts ≡ take index rows → CanBePlaced o rows place → HasAccount (installed o) (entries_in (latest_first firsts))
 account_before o place index rows firsts row next found_at is can =

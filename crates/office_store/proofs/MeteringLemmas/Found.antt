@@ -166,7 +166,8 @@ pub found_is : (facts : List Fact) (o : Option Opening) (x : Option stored.Insta
 found_is facts None x row found is finds stands = absurd (let e = sym finds ∙ is in cc)
 found_is facts (Some o) x row found is finds stands = ap Some (stands o (subst (FindsRow facts (Some o)) is finds))
 
--- If the rules accepted all records, the values in the rows that queries find are valid.
+-- Lemmas that, if the rules accepted all records, the values in the rows that queries find are
+-- valid.
 
 pub in_range : (facts : List Fact) (o : Opening) → IsSound (installation_of facts o) → IsSound (installation_of facts o)
 in_range facts o h = record { range = h.range; ceiling = h.ceiling; raw = h.raw; scale = h.scale; total = h.total }

@@ -23,7 +23,8 @@ pub all_sound : (hs : List HeldReading) → AllByRecursion IsSoundReading hs →
 all_sound [] sound = tt
 all_sound (h ∷ hs) sound = (sound.0, all_sound hs sound.1)
 
--- The timestamp of a rejected reading is at most the latest timestamp of the store.
+-- True if the timestamp of a rejected reading is at most the latest timestamp that the store
+-- allows.
 abbrev InTime : HeldReading → Type 0
 InTime h = h.at ≤ latest_moment
 
@@ -40,7 +41,7 @@ held_in_time (fact.Poll x ∷ facts) lawful = held_in_time facts lawful.1
 held_in_time (fact.Outcome x ∷ facts) lawful = held_in_time facts lawful.1
 held_in_time (fact.Reply x ∷ facts) lawful = held_in_time facts lawful.1
 
--- The rows of `holds` for a meter encode the meter's rejected readings.
+-- Lemmas that the rows of `holds` for a meter encode the meter's rejected readings.
 
 module _ (meter : List ℕ) where
   abbrev of_it : HeldReading → Bool

@@ -40,7 +40,7 @@ use Rattle.office_store.specs.Metering.Entries.{row_from, row_among, names}
 use Rattle.office_store.proofs.MeteringLemmas.Shapes.{HasShape, IsPlain, plain}
 use Rattle.office_store.proofs.MeteringLemmas.Orders.{one_order}
 
--- Reading one row of `entries` returns the corresponding entry in the meter's history.
+-- Lemmas that reading one row of `entries` returns the corresponding entry in the meter's history.
 
 scale_is : (stands : Bool) (sf new : ℤ) → (stands ≡ false → false ≡ true) → (stands ≡ true → sf ≡ new) → sf ≡ new
 scale_is true sf new read there = there refl
@@ -61,8 +61,8 @@ back_by sf last place kind.Closing (entry.Change at before new scale) stands h r
 back_by sf last place kind.Reset (entry.Step at raw rolls) stands h read there = absurd h
 back_by sf last place kind.Rescale (entry.Step at raw rolls) stands h read there = absurd h
 
--- The rows of `voids`, which cancel meter entries, name exactly the entries that the meter's
--- history marks as cancelled.
+-- Lemmas that the rows of `voids`, which cancel meter entries, name exactly the entries that the
+-- meter's history marks as cancelled.
 
 if_step : (b : Bool) (q : Voided → Bool) (v : Voided) (vs : List Voided) (other : Bool) → list_any q vs ≡ other
     → list_any q (cond b (v ∷ vs) vs) ≡ cond b (q v || other) other
@@ -103,7 +103,7 @@ module _ (meter : List ℕ) (place : ℕ) where
   voids_are (fact.Outcome e ∷ facts) = voids_are facts
   voids_are (fact.Reply r ∷ facts) = voids_are facts
 
--- Reading all rows of a meter in `entries` returns the meter's history.
+-- Lemmas that reading all rows of a meter in `entries` returns the meter's history.
 
 module _ (o : Opening) (vs : List Voided) where
   pub record IsReported (row : EntryRow) : Type 0 where
@@ -149,7 +149,7 @@ module _ (journals : JournalsFit) (stand : RowsStand) (change : VoidsChangeTwoRo
       }) (rows_of facts o) rows in
       filter_map_reverse (row_among vs) (entered_rows o (rows_of facts o)) ∙ ap reverse (all_back o vs (rows_of facts o) reported)
 
--- The query of `entries` returns the rows of a meter in the order of their indices.
+-- Lemmas that the query of `entries` returns the rows of a meter in the order of their indices.
 
 abbrev place_before : Entered → Entered → Bool
 place_before a b = nat_lt (entry_place a) (entry_place b)
@@ -188,7 +188,7 @@ entries_in_order facts o rows found numbers alone each are =
     (IsPermutation-trans _ _ _ (IsPermutation-sym _ _ (IsPermutation-trans _ _ _ each
     (subst (λ l. IsPermutation l (reverse (entered_rows o (rows_of facts o)))) (sym whole) (IsPermutation-reverse (entered_rows o (rows_of facts o)))))) are.all) are.order
 
--- A loop that reads result rows one by one appends the entry of each row to a list.
+-- Lemmas that a loop that reads result rows one by one appends the entry of each row to a list.
 
 as_list : {Y : Type 0} (o : Option Y) → option_to_list o ≡ cons_option o []
 as_list None = refl

@@ -8,7 +8,7 @@ use Rattle.sqlite_keyed.proofs.ListLemmas.{all-filter, all_both}
 use Rattle.store_tables.specs.Answer.{IsFound, IsLast}
 use Rattle.office_store.specs.Rows.{placed}
 
--- Filtering rows by a test returns exactly the rows that pass the test.
+-- Lemmas that filtering rows by a test returns only rows that pass the test.
 
 passing_step : {Y : Type 0} (p : Y → Bool) (b : Bool) (y : Y) (ys : List Y) → p y ≡ b → AllByRecursion (λ z. p z ≡ true) ys → AllByRecursion (λ z. p z ≡ true) (cond b (y ∷ ys) ys)
 passing_step p true y ys is more = (is, more)
@@ -43,11 +43,12 @@ none_mapped row p q agree (x ∷ xs) h = elim (cases_Bool (p x)) [
   | inr off ↦ cond-false _ _ _ off ∙ none_mapped row p q agree xs (sym (cond-false _ _ _ (agree x ∙ off)) ∙ h)
 ]
 
--- Lemmas that among the numbered rows that pass a test, the row with the greatest index encodes the
--- latest element.
+-- Lemmas on the numbered rows of a list that is sorted latest first. Of the rows that pass a test,
+-- the row with the greatest index encodes the latest element.
 
 module _ {X Y : Type 0} (row : ℕ → X → Y) (p : X → Bool) (q : Y → Bool) (agree : (n : ℕ) (x : X) → q (row n x) ≡ p x) where
-  -- If no numbered row passes a test, no element of the list passes it.
+  -- If none of a list's numbered rows passes a test of rows, no element of the list passes the
+  -- corresponding test of elements.
   pub none_placed : (xs : List X) → filter q (placed row xs) ≡ [] → find p xs ≡ None
   none_placed [] h = refl
   none_placed (x ∷ xs) h = elim (cases_Bool (p x)) [
@@ -56,7 +57,7 @@ module _ {X Y : Type 0} (row : ℕ → X → Y) (p : X → Bool) (q : Y → Bool
   ]
 
   module _ {A : Type 0} (IsSeen : Y → A → Type 0) (key : Y → ℕ) (keyed : (n : ℕ) (x : X) → key (row n x) ≡ n) where
-    -- True if a row encodes the element `x` at index `n` + 1, or has an index of at most `n`.
+    -- True if a row encodes the element `x` with the index `n` + 1, or has an index of at most `n`.
     abbrev IsUpTo : (n : ℕ) → X → Y → Type 0
     IsUpTo n x y = (y ≡ row (n + 1) x) ⊎ (key y ≤ n)
 
@@ -79,8 +80,8 @@ module _ {X Y : Type 0} (row : ℕ → X → Y) (p : X → Bool) (q : Y → Bool
           | inr small ↦ absurd (omega (arith, low, top, small))
         ]
 
-    -- The passing row with the greatest index encodes the first passing element of a list in
-    -- descending order.
+    -- Of a list's numbered rows that pass a test, the row with the greatest index encodes the
+    -- list's first element that passes the test. The indices of the rows descend along the list.
     pub last_placed : (xs : List X) (a : A) → IsLast q IsSeen key (placed row xs) (Some a) → (x : X) × (n : ℕ) × (find p xs ≡ Some x) × IsSeen (row n x) a
     last_placed [] a h = absurd (let long = length_permutation _ _ h.3 in omega (arith, long))
     last_placed (x ∷ xs) a h = elim (cases_Bool (p x)) [

@@ -55,7 +55,7 @@ pub record IsPlain (lines : Journal) (row : EntryRow) : Type 0 where
   pub reading : row.stands ≡ false → is_read row.kind row.entry ≡ true
   pub stands : row.stands ≡ not (is_voided row.place lines)
 
--- If rows are numbered by index, a search by index finds each row.
+-- Lemmas that, if rows are numbered by index, a search by index finds each row.
 
 abbrev pub IsBelow : ℕ → EntryRow → Type 0
 IsBelow n row = row.place ≤ n
@@ -64,7 +64,8 @@ pub below : (n : ℕ) (rows : List EntryRow) → AreNumbered rows → length row
 below n [] numbered le = tt
 below n (row ∷ rows) numbered le = ((let at = numbered.0 in omega (arith, at, le)), below n rows numbered.1 (omega (arith, le)))
 
--- True if a search for index `place` finds the given row.
+-- States that, if the second row has the index `place`, it equals the first row. States nothing
+-- about rows with other indices.
 abbrev pub FoundThere : (place : ℕ) → EntryRow → EntryRow → Type 0
 FoundThere place found row = row.place ≡ place → found ≡ row
 
@@ -95,8 +96,8 @@ found_there place (row ∷ rows) around numbered h = elim (cases_Bool (row.place
       )
 ]
 
--- If an entry is voided (cancelled), every other row of the meter's history keeps its kind and its
--- mark.
+-- Lemmas that, if an entry is voided (cancelled), every other row of the meter's history keeps its
+-- kind and its mark.
 
 shape_rolled : (last : Last) (k : EntryKind) (e : Entry) → HasShape k e → HasShape k (with_rolls last e)
 shape_rolled last k (entry.Change at before after sf) h = h
@@ -110,8 +111,8 @@ module _ (lines : Journal) (place : ℕ) where
   abbrev Later : Journal
   Later = Voided place ∷ lines
 
-  -- If a new void cancels another meter entry than the entry of a row, the row still fits the
-  -- meter's history with this void.
+  -- If a new void cancels an entry other than the entry of a row, the row still fits the meter's
+  -- history with this void.
   unnamed : (row : EntryRow) → (row.place == place) ≡ false → IsPlain lines row → IsPlain Later row
   unnamed row off h = record { shape = h.shape; reading = h.reading; stands = h.stands ∙ sym (ap (λ b. not (b || is_voided row.place lines)) off) }
 
@@ -137,8 +138,8 @@ module _ (lines : Journal) (place : ℕ) where
   }
   changed_if false next last row is read h = next_if (is_next next row) last row is h
 
--- Every row of a meter's history fits its kind of entry, and is correctly marked as voided
--- (cancelled) or not.
+-- Lemmas that every row of a meter's history fits its kind of entry, and is correctly marked as
+-- voided (cancelled) or not.
 
 plain_entered : (k : EntryKind) (e : Entry) (lines : Journal) (row : EntryRow) → IsPlain lines row → IsPlain (Entered k e ∷ lines) row
 plain_entered k e lines row h = record { shape = h.shape; reading = h.reading; stands = h.stands }

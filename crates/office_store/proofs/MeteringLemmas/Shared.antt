@@ -116,8 +116,8 @@ module _ (kept : MetersAreKept) (facts : List Fact) (lawful : AreLawful facts) w
       h.2 ∙ ap (map (λ (i : Interval). i.share)) (here ∙ filter-map asked (interval_of meter) shares) ∙ shares_back meter _
       ∙ bounded_rows (λ (share : Share). share.start) from till low high low_is high_is shares (meter_in_time turn facts lawful meter)
 
-  -- The rows of `intervals` for an accounting register (a named energy counter) are those of the
-  -- register's meters.
+  -- Lemmas that the rows of `intervals` for an accounting register (a named energy counter) are
+  -- those of the register's meters.
 
   module _ (register : List ℕ) (rows : List Interval) where
     abbrev Pair : Type 0
@@ -132,7 +132,7 @@ module _ (kept : MetersAreKept) (facts : List Fact) (lawful : AreLawful facts) w
     abbrev here : Opening → Bool
     here o = same o.register register
 
-    -- The rows of `intervals` for each meter at an accounting register (a named energy counter), in
+    -- The rows of `intervals` for each meter of an accounting register (a named energy counter), in
     -- the order in which the meters were installed.
     abbrev wanted : List Opening → List Pair
     wanted [] = []
@@ -246,8 +246,8 @@ module _ (kept : MetersAreKept) (facts : List Fact) (lawful : AreLawful facts) w
         ascending-append (λ (p q : Pair). comes_before p q ≡ true) (wanted os) _ (in_turn os h.1) (rising_here (here o) n o h.0)
         (all_weaker (λ (p : Pair). installed_place p.0 ≤ length os) _ (λ p le. all_after (here o) p n o (omega (arith, le))) (wanted os) (up_to (length os) os (omega arith)))
 
-    -- The energy in the rows of an accounting register (a named energy counter) is the energy of
-    -- the register's meters, in order.
+    -- Lemmas that the energies in the rows of an accounting register (a named energy counter) are
+    -- the energies of the register's meters, in order.
 
     abbrev share_of : Pair → Share
     share_of p = p.1.share

@@ -16,7 +16,7 @@ use Rattle.office_books.specs.Registers.{RegistersAreInTurn}
 use Rattle.office_books.proofs.Lookups.{same_itself}
 use Rattle.store_tables.specs.Limits.{latest_moment}
 
--- No quarter hour with energy starts after the latest timestamp that the store allows.
+-- Lemmas that no quarter hour with energy starts after the latest timestamp that the store allows.
 
 abbrev InTime : Share → Type 0
 InTime share = share.start ≤ latest_moment
@@ -63,8 +63,8 @@ module _ (turn : RegistersAreInTurn) (facts : List Fact) (lawful : AreLawful fac
   pub meter_in_time : (meter : List ℕ) → AllByRecursion InTime (rows_of_meter facts meter)
   meter_in_time meter = found_in_time meter (opening_of facts meter) refl
 
--- Limiting a time span to the latest timestamp that the store allows removes no row from the
--- result.
+-- Lemmas that limiting a time span to the latest timestamp that the store allows removes no row
+-- from the result.
 
 module _ {X : Type 0} (moment : X → ℕ) (from till low high : ℕ) (low_is : low ≡ min from (latest_moment + 1)) (high_is : high ≡ min till (latest_moment + 1)) where
   abbrev asked : X → Bool
@@ -90,7 +90,7 @@ module _ {X : Type 0} (moment : X → ℕ) (from till low high : ℕ) (low_is : 
   bounded_rows (x ∷ xs) h =
       ap₂ (λ b l. cond b (x ∷ l) l) (ap₂ (λ a b. a && b) (same_low (moment x) h.0) (same_high (moment x) h.0)) (bounded_rows xs h.1)
 
--- Filtering rows by two tests in sequence returns the rows that pass both tests.
+-- Lemmas that filtering rows by two tests in sequence returns the rows that pass both tests.
 
 both_if : {X : Type 0} (a b : Bool) (x : X) (p q : X → Bool) (xs : List X) → q x ≡ b → filter (λ y. p y && q y) xs ≡ filter q (filter p xs)
     → cond (a && b) (x ∷ filter (λ y. p y && q y) xs) (filter (λ y. p y && q y) xs) ≡ filter q (cond a (x ∷ filter p xs) (filter p xs))

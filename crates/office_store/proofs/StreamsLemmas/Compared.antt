@@ -27,7 +27,7 @@ is_below table column param = op2 (Compare Lt Binary) (col table column) (col 0 
 pub all_found : {X : Type 0} (P : X → Type 0) (p : X → Bool) (xs found : List X) → IsPermutation (filter p xs) found → AllByRecursion P xs → AllByRecursion P found
 all_found P p xs found same all = recursion_from_All P found (All-permutation P _ _ same (All-from_recursion P _ (all-filter P p xs all)))
 
--- SQLite's comparison of two integers agrees with the comparison of natural numbers.
+-- Lemmas that SQLite's comparison of two integers agrees with the comparison of natural numbers.
 
 truth_back : (b : Bool) → is_true (from_truth (Some b)) ≡ b
 truth_back true = refl

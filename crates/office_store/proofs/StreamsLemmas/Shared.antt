@@ -35,7 +35,7 @@ if_damaged : {T : Type 0} (Sound : Type 0) (r : Result T RowFault) → IfErr r (
 if_damaged Sound (Ok x) h is = absurd (let e = is in cc)
 if_damaged Sound (Err f) h is = subst (IsRowFault Sound) (let e : f ≡ Damaged = cc in e) h
 
--- Proofs about the columns that a query returns for each row, and about the reader of the columns.
+-- Lemmas on the columns that a query returns for each row, and on the reader of the columns.
 module _ {X T : Type 0} (shown : X → Row) (of : X → T) (Sound : X → Type 0) (reads : Row → Result T RowFault) (fair : (x : X) → IsFair (Sound x) (λ t. t ≡ of x) (reads (shown x))) where
   read_as : (x : X) (row : Row) (t : T) → row ≡ shown x → reads row ≡ Ok t → t ≡ of x
   read_as x row t is read = if_read (reads (shown x)) (λ y. y ≡ of x) t (fair x).read (sym (ap reads is) ∙ read)

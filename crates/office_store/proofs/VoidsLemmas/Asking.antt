@@ -43,7 +43,8 @@ not_read T g old new a (Ok y) tree columns Answers asks is = absurd is
 not_read T g old new a (Err d) tree columns Answers asks is =
     record { kept = λ clean inside content has. asks.kept clean content has; makes = λ clean inside content has. tt; survives = asks.survives }
 
--- The first result row of a query with LIMIT 1 encodes the first row that passes the query's test.
+-- Lemmas that the first result row of a query with LIMIT 1 encodes the first row that passes the
+-- query's test.
 
 module _ {X : Type 0} (passes : X → Bool) (shown : X → Row) where
   no_first : (items : List Row) (found : List X) → slice_get items 0 ≡ None → items ≡ take 1 (map shown found) → slice_get found 0 ≡ None
@@ -80,7 +81,8 @@ module _ {X : Type 0} (passes : X → Bool) (shown : X → Row) where
       })
       (of_answer g old new tree columns (λ xs a. ShowsFirst passes AnyOrder shown xs items) rows asks reports)
 
-  -- A query with LIMIT 1 has a result row exactly if some row of the table passes the query's test.
+  -- Lemmas that a query with LIMIT 1 has a result row if and only if some row of the table passes
+  -- the query's test.
 
   abbrev has_some : List X → Bool
   has_some [] = false

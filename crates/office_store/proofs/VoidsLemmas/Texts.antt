@@ -1,5 +1,5 @@
 -- The SQL statements that void a meter's entry (cancel a false reading), and what SQLite's parser
--- makes of them.
+-- returns for these statements.
 use Rattle.std.proofs.Common.{◌≡◌, List, [], ◌∷◌, codes, ℕ, pos, false, refl}
 use Rattle.sqlite.specs.declared.types.Value.TheVariants.{Int, Text}
 use Rattle.sqlite.specs.Term.{Term, col}
@@ -15,7 +15,8 @@ use Rattle.store_tables.proofs.Failures.{Suits, suits_scan}
 use Rattle.store_tables.proofs.Scans.{scan, no_limit, one, is_param}
 use Rattle.office_store.proofs.StreamsLemmas.Compared.{is_at_least}
 
--- Lemmas on the SQL text of the statement `take_share`, and what SQLite parses from it.
+-- Lemmas on the SQL text of `take_share` (an UPDATE that subtracts energy from a row of
+-- `intervals`), and on what SQLite parses from this text.
 
 abbrev pub take_share : List ℕ
 take_share = codes "UPDATE intervals SET mwh = mwh - ?3 WHERE meter = ?1 AND start = ?2"
@@ -34,7 +35,8 @@ pub take_share_plain : IsPlain (understood books_schema take_share)
 unfolding understood everything
 take_share_plain = (refl, refl)
 
--- Lemmas on the SQL text of the statement `drop_rows_from`, and what SQLite parses from it.
+-- Lemmas on the SQL text of `drop_rows_from` (a DELETE of a meter's later rows of `intervals`), and
+-- on what SQLite parses from this text.
 
 abbrev pub drop_from : List ℕ
 drop_from = codes "DELETE FROM intervals WHERE meter = ?1 AND start >= ?2"
@@ -50,7 +52,8 @@ pub drop_from_plain : IsPlain (understood books_schema drop_from)
 unfolding understood everything
 drop_from_plain = (refl, refl)
 
--- Lemmas on the SQL text of the query `void_rows_at`, and what SQLite parses from it.
+-- Lemmas on the SQL text of `void_rows_at` (a SELECT of the void of a meter's entry), and on what
+-- SQLite parses from this text.
 
 abbrev pub void_at : List ℕ
 void_at = codes "SELECT place FROM voids WHERE meter = ?1 AND place = ?2 LIMIT 1"

@@ -15,8 +15,8 @@ use Rattle.office_store.proofs.GoingLemmas.{goes_then, then_failed, reported_les
 use Rattle.office_store.specs.Voids.Places.{ReportsOf, names, ReportsVoided, AreVoided, IsBefore, IsAfter}
 
 module _ (meter : List ℕ) where
-  -- True if a meter's entries with indices between `low` and `high` are all voided (cancelled), and
-  -- the search changed nothing.
+  -- True if a meter's entries with indices above `low` and below `high` are all voided (cancelled),
+  -- and the search changed nothing.
   abbrev pub Passed : (low high : ℕ) → Content → Content → Type 0
   Passed low high = Reported voids voided_columns (λ (vs : List Voided) (u : Unit {0}). AreVoided meter low high vs) tt
 

@@ -55,7 +55,8 @@ drop_from meter from old new r h =
     deletes intervals_table 9 refl (Text meter ∷ Int (pos from) ∷ []) text.drop_from_tests interval_columns (starts_from meter from)
     (λ n i. rw (text_is i.meter meter, at_least_is i.share.start from, and_true (nat_le from i.share.start)) refl) old new text.drop_from r text.drop_from_is text.drop_from_plain h
 
--- SQLite's difference of two energies in mWh is exact, because both energies are less than 2^63.
+-- Lemmas that SQLite's difference of two energies in mWh is exact, because both energies are less
+-- than 2^63.
 
 fits : (n : ℕ) → n < 2 ^ 63 → if_fits (pos n) ≡ Some (pos n)
 fits n h = grind (arith, nat_tests)

@@ -85,8 +85,9 @@ abbrev pub StandsAt : Surroundings → (before : Last) → (total : ℕ) → (is
 StandsAt found before total is_last last =
     last ≡ stands_at (if is_last then before else counter_of found.standing.last) total
 
--- When an entry is voided (cancelled), the meter's rows of `intervals` from this time on are
--- deleted. The time is the meter's last entry, or 0 if only the opening (the first entry) remains.
+-- The time from which a meter's rows of `intervals` are deleted when an entry is voided
+-- (cancelled). It is the time of the meter's last entry, or 0 if only the opening (the first entry)
+-- remains.
 abbrev pub gone_from : (opened last : ℕ) → ℕ
 gone_from opened last = if last == opened then 0 else last
 

@@ -40,8 +40,8 @@ counter_of last = record { at = last.moment; raw = last.raw; sf = last.sf }
 abbrev pub stands_at : Last → (total : ℕ) → LastRow
 stands_at last total = record { moment = last.at; raw = last.raw; sf = last.sf; total = total }
 
--- True if the rules accept a new entry, and `advance` has the meter's new last entry and the energy
--- since the previous entry.
+-- States that, if the rules accept a new entry, the `Advance` has the meter's new last entry and
+-- the energy since the previous entry. States nothing otherwise.
 abbrev pub Advances : Standing → Entry → Advance → Type 0
 Advances standing e advance =
     (last : Last) (step : Step)

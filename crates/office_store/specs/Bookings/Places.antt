@@ -12,7 +12,8 @@ use Rattle.store_tables.specs.Limits.{greatest_place}
 use Rattle.store_tables.specs.declared.meters.rows.LastRow.{LastRow}
 use Rattle.store_tables.specs.Meters.Rows.{Installed}
 
--- The index after a given index, or `Damaged` if the given index is the greatest one.
+-- The index after a given index, or `Damaged` if the given index is the greatest index that the
+-- tables allow.
 abbrev pub one_on : ℕ → Result ℕ RowFault
 one_on place = if nat_le greatest_place place then Err Damaged else Ok (place + 1)
 
@@ -30,8 +31,8 @@ place_after (Some row) = following_place row
 abbrev pub next_in : List Row → Result ℕ RowFault
 next_in rows = place_after (slice_get rows 0)
 
--- If the call returns Ok, `Makes` relates the answer, the tables before the call, and the tables
--- after it. An error implies nothing about the tables.
+-- States that, if the call returns `Ok`, the relation `Makes` holds between the answer, the tables
+-- before the call, and the tables after it. States nothing after an error.
 abbrev pub Answered : {X E : Type 0} → Result X E → (X → Content → Content → Type 0) → Content
     → Content → Type 0
 Answered (Ok x) Makes = Makes x

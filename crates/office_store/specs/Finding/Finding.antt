@@ -13,10 +13,9 @@ use Rattle.store_tables.specs.Failing.{IsFault, IsRowFault}
 use Rattle.office_store.specs.Holding.{HoldsFacts, OnlyLooks}
 use Rattle.office_store.specs.Finding.Each.{AreEach}
 
--- The contract of a look-up, if reads of the database file return the written bytes. An Ok answer
--- follows from the records. The look-up reports `Damaged` only if the records have a value that no
--- table, or no valid record, can have. Any other fault has a cause in `IsStoreError`. A look-up
--- changes nothing.
+-- The contract of a look-up, if reads of the database file return the written bytes. An `Ok` answer
+-- follows from the records. A look-up reports `Damaged` only if the records violate `AreSound`, and
+-- any other error only for a cause that `IsStoreError` lists. A look-up changes nothing.
 pub record Finds {S A : Type 0} (g : Ghosts S) (old new : Held S) (result : Result A RowFault)
     (Says : List Fact → A → Type 0) (AreSound : List Fact → Type 0) : Type 0 where
   pub answer : (zone : List ℕ) (facts : List Fact) → HoldsFacts g zone old facts
@@ -31,8 +30,8 @@ pub record Finds {S A : Type 0} (g : Ghosts S) (old new : Held S) (result : Resu
 abbrev pub OfLawful : {A : Type 0} → (List Fact → A → Type 0) → List Fact → A → Type 0
 OfLawful Says facts a = AreLawful facts × Says facts a
 
--- True if a reader converts result rows to the values that they encode, in order. It may fail only
--- with `Damaged` for a value out of its range, or out of memory.
+-- True if a reader converts result rows to the values that they encode, in order. The reader may
+-- fail in two cases: `Damaged` if a value is out of its range, or out of memory.
 pub record ReadsAll {A T X : Type 0} (rows : List Row) (shown : X → Row) (IsSeen : X → A → Type 0)
     (IsSound : X → Type 0) (items : T → List A) (result : Result T RowFault) : Type 0 where
   pub read : (xs : List X) → rows ≡ map shown xs → IfOk result (λ v. AreEach IsSeen xs (items v))

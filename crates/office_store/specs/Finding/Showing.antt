@@ -41,8 +41,8 @@ FindsRegister name facts =
 abbrev pub FindsPoll : (number : ℕ) → List Fact → Option Poll → Type 0
 FindsPoll number facts = IsFound (is_poll number) IsStarted (map started (polls_in facts))
 
--- True if the answer says whether a request equals the request that is stored under its idempotency
--- key. None means that no request is stored.
+-- True if the answer correctly says whether a request equals the request that is stored under its
+-- idempotency key. None means that no request is stored under the key.
 abbrev pub FindsRepeat : (caller : List ℕ) → (number : ℕ) → (request : List ℕ) → List Fact
     → Option Repeat → Type 0
 FindsRepeat caller number request facts =

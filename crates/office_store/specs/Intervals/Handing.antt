@@ -15,7 +15,7 @@ use Rattle.office_store.specs.Intervals.Rows.{Interval, interval_columns, is_of,
 abbrev pub HaveIntervals : List Interval → Content → Type 0
 HaveIntervals = HasRows intervals interval_columns
 
--- True if `all` is the energy of a meter by quarter hours, ordered by their starts.
+-- True if the list of shares is the energy of a meter by quarter hours, ordered by their starts.
 abbrev pub AreSharesOfMeter : (meter : List ℕ) → List Interval → List Share → Type 0
 AreSharesOfMeter meter rows all =
     (found : List Interval) × AreFound (is_of meter) (FirstFirst start_of) rows found
@@ -51,8 +51,8 @@ ComesAfter p q =
     (installed_place p.0 < installed_place q.0)
     ⊎ ((installed_place p.0 ≡ installed_place q.0) × (start_of p.1 ≤ start_of q.1))
 
--- True if `all` is the energy of an accounting register (a named energy counter) by quarter hours:
--- one meter after another, in the order of installation.
+-- True if the list of shares is the energy of an accounting register (a named energy counter) by
+-- quarter hours: one meter after another, in the order of installation.
 abbrev pub AreSharesAt : (register : List ℕ) → Lying → List Share → Type 0
 AreSharesAt register lying all =
     (found : List (Installed × Interval))
@@ -68,8 +68,8 @@ AreSoundLying lying = AreSoundIntervals lying.rows
 abbrev pub is_between : (from till : ℕ) → Interval → Bool
 is_between from till i = nat_le from (start_of i) && nat_lt (start_of i) till
 
--- True if `all` is the energy of a meter in the quarter hours that start from `from` until before
--- `till`, ordered by their starts.
+-- True if the list of shares is a meter's energy by quarter hours, ordered by their starts. Only
+-- quarter hours with starts of at least `from` and less than `till` are in the list.
 abbrev pub AreSharesOfMeterBetween : (meter : List ℕ) → (from till : ℕ) → List Interval
     → List Share → Type 0
 AreSharesOfMeterBetween meter from till rows all =
@@ -77,8 +77,9 @@ AreSharesOfMeterBetween meter from till rows all =
     × AreFound (λ i. is_of meter i && is_between from till i) (FirstFirst start_of) rows found
     × (all ≡ map (λ i. i.share) found)
 
--- True if `all` is the energy of an accounting register (a named energy counter) in the quarter
--- hours from `from` until before `till`. The meters follow each other in the order of installation.
+-- True if the list of shares is the energy of an accounting register (an energy counter) by quarter
+-- hours. Their starts are at least `from` and less than `till`. The meters follow one another in
+-- the order of installation.
 abbrev pub AreSharesAtBetween : (register : List ℕ) → (from till : ℕ) → Lying → List Share → Type 0
 AreSharesAtBetween register from till lying all =
     (found : List (Installed × Interval))

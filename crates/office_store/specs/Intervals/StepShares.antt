@@ -31,15 +31,15 @@ abbrev pub AreSmall : List Interval → Type 0
 AreSmall = AllByRecursion (λ i. i.share.mwh ≤ greatest_total)
 
 -- The effect of a write on the table `intervals`. If the table's rows have the property `May`, the
--- write changes them as the function `edit`. Every other table is unchanged.
+-- write changes the rows by the function `edit`. Every other table is unchanged.
 pub record EditsIf (May : List Interval → Type 0) (edit : List Interval → List Interval)
     (content after : Content) : Type 0 where
   pub rows : (is : List Interval) → HasRows intervals interval_columns is content → May is
       → HasRows intervals interval_columns (edit is) after
   pub others : (t : ℕ) → t ≢ intervals → after t ≡ content t
 
--- The effect of adding a meter's energy by quarter hours to `intervals`. It applies if no row then
--- exceeds the greatest total of a meter.
+-- The effect of adding a meter's energy by quarter hours to the table `intervals`. The rows get the
+-- energy if no row then exceeds the greatest total energy of a meter.
 abbrev pub BooksShares : (meter : List ℕ) → List Share → Content → Content → Type 0
 BooksShares meter shares =
     EditsIf (λ is. AreSmall (with_shares meter shares is)) (with_shares meter shares)

@@ -50,8 +50,8 @@ OpenedFilesKeepTheirs = (layout : Layout) (zone : List ℕ) (facts : List Fact) 
     → (it : HasFactsIn layout zone facts db) (after : Content)
     → IsBrought layout zone it.content after → AreOf zone facts after
 
--- Theorem: a file of version 3 encodes a list of records if and only if its tables are those of the
--- records.
+-- Theorem: for files of version 3, two definitions of the encoded records agree. These are
+-- `HasFactsIn` (for files of any version) and `HasFacts` (for current tables).
 abbrev pub NewestFilesHaveTheirs : Type 0
 NewestFilesHaveTheirs = (zone : List ℕ) (facts : List Fact) (db : Database)
     → (HasFactsIn Third zone facts db) ↔ (HasFacts zone facts db)

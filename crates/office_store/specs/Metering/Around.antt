@@ -21,7 +21,7 @@ use Rattle.office_store.specs.Metering.Entries.{row_from, names}
 use Rattle.office_store.specs.declared.metering.around.Sides.{Sides}
 use Rattle.office_store.specs.declared.metering.around.Around.{Around}
 
--- True if every index between `low` and `high` has a void in the list. A void cancels the meter
+-- True if every index above `low` and below `high` has a void in the list. A void cancels the meter
 -- entry at its index.
 abbrev pub AreVoided : List Voided → (low high : ℕ) → Type 0
 AreVoided voids low high =
@@ -48,8 +48,8 @@ pub record AreSides (voids : List Voided) (place : ℕ) (sides : Sides) : Type 0
   pub after : IsAfter voids place sides.after
   pub stands : sides.stands ≡ not (list_any (names place) voids)
 
--- True if the property `Is` holds for the voids (cancellations of entries) that the result rows of
--- a query encode.
+-- True if the given property holds for the list of voids (cancellations of entries) that the result
+-- rows of a query encode.
 abbrev pub ByVoids : (List Voided → Type 0) → (rows : List Row) → Type 0
 ByVoids Is rows = (voids : List Voided) → rows ≡ map voided_shown voids → Is voids
 
@@ -88,15 +88,15 @@ pub record IsSeen (whole : Installation) (around : Around) (stands : Bool) (seen
   pub row : Some seen.row ≡ row_from around.entry stands
   pub next : seen.next ≡ next_from around.next
 
--- True if the answer is the meter's entry at index `place`, provided that `whole` is the meter's
--- current state.
+-- States that, if the given state is the meter's current state, the answer is the meter's entry at
+-- index `place`. States nothing otherwise.
 abbrev pub ReportsOf : (meter : List ℕ) → (place : ℕ) → Installation → List Fact
     → Option EntryContext → Type 0
 ReportsOf meter place whole facts found =
     Some whole ≡ meter_of facts meter → ReportsNear facts meter place found
 
--- True if the rules accepted all records, and an entry that was built from rows is the meter's
--- entry at index `place`.
+-- True if the rules accepted all records, and the following holds if `whole` is the meter's current
+-- state: an entry that was built from rows is the meter's entry at index `place`.
 pub record ReportsRightly (meter : List ℕ) (place : ℕ) (whole : Installation) (facts : List Fact)
     (found : Option EntryContext) : Type 0 where
   pub lawful : AreLawful facts

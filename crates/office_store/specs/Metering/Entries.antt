@@ -27,8 +27,8 @@ use Rattle.store_tables.specs.Entries.Rows.{Entered, Voided, entry_shown, voided
 use Rattle.office_store.specs.Rows.{entered_rows, voided}
 use Rattle.office_store.specs.Metering.Sound.{HasReadableMeters, HasReadableJournals}
 
--- The row in a meter's journal (its history) for an entry that reads the counter: by a poll, by
--- hand, or when the meter is closed.
+-- The row in a meter's journal (its history) for an entry that reads the counter: a poll's reading,
+-- a manual reading, or the reading when the meter is closed.
 abbrev pub step_row : journal_kind.EntryKind → EntryRow → (stands : Bool) → journal.EntryRow
 step_row k e stands =
     record { place = e.place; kind = k; entry = entry.Step e.moment e.raw e.rolls; stands = stands }
@@ -90,8 +90,8 @@ pub record ShowsVoids (meter : List ℕ) (facts : List Fact) (rows : List Row) :
   pub all : IsPermutation (filter (is_void_of meter) (map voided (voids_in facts))) voids
   pub sound : HasReadableJournals facts → AllByRecursion IsSoundVoided voids
 
--- True if `rows` are the rows of a meter's journal (its history) that result rows of `entries` and
--- `voids` encode, in the order of the entries.
+-- True if the journal rows are those that result rows of `entries` and `voids` encode, in the order
+-- of the entries. A journal is a meter's history.
 abbrev pub AreJournal : (entries voids : List Row) → List journal.EntryRow → Type 0
 AreJournal entries voids rows = (es : List Entered) (vs : List Voided)
     → entries ≡ map entry_shown es
@@ -111,7 +111,8 @@ IsFaultOfJournal entries voids e = (es : List Entered) (vs : List Voided)
     → voids ≡ map voided_shown vs
     → IsRowFault (AllByRecursion IsSoundEntered es × AllByRecursion IsSoundVoided vs) e
 
--- True if `rows` are all entries of a meter except its first one, the oldest first.
+-- True if the journal rows are all entries of a meter except its first one, the oldest first. A
+-- journal is a meter's history.
 abbrev pub FindsJournal : (meter : List ℕ) → List Fact → List journal.EntryRow → Type 0
 FindsJournal meter facts rows =
     (opening : Opening) → opening_of facts meter ≡ Some opening

@@ -25,8 +25,8 @@ pub record IsFoundIn (image : Image) (db : Database) : Type 0 where
   pub holds : (trees : Trees) → HoldsDatabase image trees → db.trees ≡ trees
 
 module _ {D : Type 0} (g : Ghosts D) where
-  -- True if the next open finds one of the lists of records in `left`, after any crash that the
-  -- given database files allow.
+  -- True if the next open finds one of the given lists of records, after any crash that the given
+  -- database files allow.
   abbrev pub LeaveInFiles : List ℕ → List (List Fact) → FileStore D g → Type 0
   LeaveInFiles zone left it = (image : Image) (db : Database) → (store_state it).may_leave image
       → IsFoundIn image db → ∥ HasOneOf zone left db ∥₁
@@ -38,8 +38,8 @@ module _ {D : Type 0} (g : Ghosts D) where
       → IsTrue (view it).is_numbered
       → ((trees : Trees) → recovers it trees → IsLeft zone left trees) → LeaveInFiles zone left it
 
-  -- Theorem: if the files of a database are opened, the new connection finds the tables that the
-  -- earlier connection committed.
+  -- Theorem: if a connection was just opened from database files, the tables that it has committed
+  -- are those that SQLite finds in the files.
   abbrev pub OpenedFilesAreFound : Type 0
   OpenedFilesAreFound = (image : Image) (h : Held (FileStore D g)) → IsOpened h
       → FindsIn image (file_state h) → IsFoundIn image (file_state h).committed

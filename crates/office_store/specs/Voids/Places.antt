@@ -7,7 +7,8 @@ use Rattle.store_tables.specs.Content.{Content}
 use Rattle.store_tables.specs.Entries.Rows.{Voided}
 use Rattle.office_store.specs.Going.{Reported}
 
--- True if a query changed nothing, and an Ok answer follows from the rows of one table.
+-- True if a query failed, or if it changed nothing and its answer follows from the rows of one
+-- table.
 abbrev pub ReportsOf : {X A E : Type 0} → Result A E → (tree : ℕ) → (columns : X → Row)
     → (Answers : List X → A → Type 0) → Content → Content → Type 0
 ReportsOf (Ok a) tree columns Answers = Reported tree columns Answers a
@@ -27,7 +28,7 @@ names meter place voids = list_any (is_void meter place) voids
 abbrev pub ReportsVoided : (meter : List ℕ) → (place : ℕ) → List Voided → Bool → Type 0
 ReportsVoided meter place voids is = is ≡ names meter place voids
 
--- True if every entry of the meter `meter` with an index between `low` and `high` is voided
+-- True if every entry of the meter `meter` with an index above `low` and below `high` is voided
 -- (cancelled).
 abbrev pub AreVoided : (meter : List ℕ) → (low high : ℕ) → List Voided → Type 0
 AreVoided meter low high voids =

@@ -13,8 +13,8 @@ use Rattle.office_store.specs.Intervals.StepShares.{EditsIf}
 abbrev pub lowered : (mwh : ℕ) → Interval → Interval
 lowered mwh i = record i { share = record i.share { mwh = i.share.mwh - mwh } }
 
--- The rows of `intervals` after `share`, the energy of a meter in one quarter hour, was subtracted
--- from the meter's row for this quarter hour.
+-- The rows of `intervals` after a share (a meter's energy in one quarter hour) was subtracted from
+-- the meter's row for this quarter hour.
 abbrev pub without_share : (meter : List ℕ) → Share → List Interval → List Interval
 without_share meter share rows = changed_where (is_at meter share.start) (lowered share.mwh) rows
 
@@ -24,8 +24,9 @@ without_shares meter [] rows = rows
 without_shares meter (share ∷ shares) rows =
     without_shares meter shares (without_share meter share rows)
 
--- True if the meter's row for a quarter hour has at least the energy `share`, which can then be
--- subtracted. The row may not exceed the greatest total of a meter.
+-- States that, if the row is the meter's row for the quarter hour of the share, it has at least the
+-- share's energy. Therefore this energy can be subtracted. The row's energy is also at most the
+-- greatest total of a meter.
 abbrev pub HasShare : (meter : List ℕ) → Share → Interval → Type 0
 HasShare meter share i =
     is_at meter share.start i ≡ true
@@ -39,8 +40,8 @@ HaveShares meter (share ∷ shares) rows =
     AllByRecursion (HasShare meter share) rows
     × HaveShares meter shares (without_share meter share rows)
 
--- The effect of subtracting a meter's energy by quarter hours from `intervals`, provided that each
--- row has at least this energy.
+-- The effect of subtracting a meter's energy by quarter hours from the table `intervals`. The rows
+-- lose the energy if each row has at least the energy to subtract.
 abbrev pub TakesShares : (meter : List ℕ) → List Share → Content → Content → Type 0
 TakesShares meter shares = EditsIf (HaveShares meter shares) (without_shares meter shares)
 

@@ -58,7 +58,7 @@ fn enter_facts<S: Alter>(
     Ok(())
 }
 
-/// Writes records and commits all of them, or none. The commit is the last call of the database.
+/// Writes records and commits all of them, or none. The commit is the last database call.
 fn commit_facts<S: Alter>(
     alloc: Global,
     conn: &mut Connection<S>,

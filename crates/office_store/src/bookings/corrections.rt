@@ -25,9 +25,9 @@ pub struct Rollover {
     pub rolls: u8,
 }
 
-/// The changes at the next entry after a voided (cancelled) entry. The next entry now follows the
-/// entry before the voided entry: it gets new rollovers, and the energy `put` replaces the energy
-/// `out`.
+/// The changes at the next entry after a voided (cancelled) entry, which now follows the entry
+/// before the voided entry. It gets new rollovers. The energy `out` (since the voided entry) is
+/// removed, and the energy `put` (since the entry before) is added.
 #[derive(Clone, Copy)]
 pub struct Rejoined {
     pub rollover: Rollover,
@@ -154,7 +154,7 @@ fn rejoin_next(
 }
 
 /// Computes the total energy of a meter after an entry was voided (cancelled). Subtracts the
-/// energies to and from this entry, and adds the energy between its neighbours. Reports a negative
+/// energies to and from this entry, and adds the energy between its neighbors. Reports a negative
 /// total, or a total above a meter's limit, as damage.
 fn total_after(total: u64, out: &Step, next: &Option<Rejoined>) -> Result<u64, RowFault>
     requires total { total ≤ greatest_total }
@@ -204,8 +204,8 @@ fn new_last_entry(
 }
 
 /// Returns the time from which voiding (cancelling) an entry deletes the meter's rows of
-/// `intervals`. This time is the meter's last entry, or 0 if the last entry is the opening (the
-/// first entry), after which no energy is recorded.
+/// `intervals`. This time is the meter's last entry. It is 0 if the last entry is the opening (the
+/// first entry), because the meter then has no energy.
 fn end_of_rows(opened: u64, last: &LastRow) -> u64
     requires { last.now.moment ≤ latest_moment }
     ensures end { result ≡ gone_from opened last.now.moment }

@@ -23,8 +23,8 @@ use store_tables::{
     last_installation_rows, last_register_rows, whole,
 };
 
-/// Returns the index that follows the index in a row. Reports an index past the greatest one as
-/// damage.
+/// Returns the index that follows the index in a row. Reports an index past the greatest index of
+/// the tables as damage.
 fn following(row: &Row) -> Result<u64, RowFault>
     ensures next { result ≡ following_place row.now }
     ensures sound { IfOk result IsPlace }

@@ -61,8 +61,8 @@ pub fn enter_hold<S: Alter>(tx: &mut Transaction<'_, S>, held: &HeldReading) -> 
     Ok(())
 }
 
-/// Stores an accepted request under its idempotency key, so that a retry of the request acts only
-/// once.
+/// Stores an accepted request under its idempotency key, so that a retry of the request has no
+/// second effect.
 pub fn enter_reply<S: Alter>(tx: &mut Transaction<'_, S>, reply: &Reply) -> Result<(), RowFault>
     ensures same_reference { IsSameBorrow tx.old.conn tx.new.conn }
     ensures does { Goes (state S.Store tx.old.conn.now) (state S.Store tx.new.conn.now) result

@@ -24,7 +24,7 @@ pub struct Neighbours {
     pub next: Option<EntryRow>,
 }
 
-/// An entry of a meter and its neighbours, with the meter's state and the time of the meter's
+/// An entry of a meter and its neighbors, with the meter's state and the time of the meter's
 /// opening (the first entry).
 #[derive(Clone, Copy)]
 pub struct Surroundings {

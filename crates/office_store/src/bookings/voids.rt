@@ -160,7 +160,7 @@ fn book_void<S: Alter>(
 /// Voids (cancels) a meter's entry. The entry's row remains, and a row of `voids` cancels it. The
 /// next entry that is not voided gets the rollovers since the entry that now precedes it. The
 /// meter's total energy and its rows of `intervals` become those of the entries that are not
-/// voided. The cost grows with the number of quarter hours between the neighbours of the voided
+/// voided. The cost grows with the number of quarter hours between the neighbors of the voided
 /// entry.
 pub fn enter_void<S: Alter>(
     tx: &mut Transaction<'_, S>,

@@ -1,5 +1,5 @@
-//! Queries for stored requests. The store keeps each accepted request, so that a retry acts only
-//! once.
+//! Queries for stored requests. The store keeps each accepted request, so that a retry has no
+//! second effect.
 ghost use Rattle.std.specs.Prelude.{◌≡◌, false, IsUtf8};
 ghost use Rattle.office_books.specs.Repeats.{repeat_of};
 ghost use Rattle.store_tables.specs.Polls.Rows.{IsCallNumber};

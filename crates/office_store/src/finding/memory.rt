@@ -1,4 +1,5 @@
-//! The out-of-memory error of a query, and appending to a vector with this error.
+//! The out-of-memory error of a query, and a function that appends to a vector and returns this
+//! error if the vector can't grow.
 ghost use Rattle.std.specs.Prelude.{◌≡◌, [], ◌∷◌, ◌++◌, IfErr, OnOk};
 ghost use Rattle.sqlite.specs.declared.error.ErrorCode.TheVariants.{OutOfMemory};
 ghost use Rattle.sqlite.specs.declared.error.Error.TheVariants.{SqliteFailure};

@@ -50,8 +50,8 @@ pub fn register_intervals<S: Alter, K: RowSink<Share>>(
     )
 }
 
-/// Passes the energy of a meter to `sink`, by the quarter hours that start from `from` until before
-/// `till`, in order. No other row is passed to `sink`.
+/// Passes the energy of a meter to `sink`, by the quarter hours whose starts are at least `from`
+/// and less than `till`, in order. No other row is passed to `sink`.
 pub fn meter_intervals_between<S: Alter, K: RowSink<Share>>(
     conn: &mut Connection<S>,
     meter: &str,
@@ -76,8 +76,8 @@ pub fn meter_intervals_between<S: Alter, K: RowSink<Share>>(
 }
 
 /// Passes the energy of an accounting register (a named energy counter) to `sink`. Includes the
-/// quarter hours that start from `from` until before `till`. The meters follow each other in the
-/// order of installation.
+/// quarter hours whose starts are at least `from` and less than `till`. The meters follow each
+/// other in the order of installation.
 pub fn register_intervals_between<S: Alter, K: RowSink<Share>>(
     conn: &mut Connection<S>,
     register: &str,

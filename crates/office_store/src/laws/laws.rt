@@ -39,8 +39,8 @@ pub fn opened_files_keep_theirs()
     ensures { OpenedFilesKeepTheirs }
 {}
 
-/// Theorem: a file of version 3 encodes a list of records if and only if its tables are those of
-/// the records.
+/// Theorem: for files of version 3, two definitions of the encoded records agree. These are
+/// `HasFactsIn` (for files of any version) and `HasFacts` (for current tables).
 pub fn newest_files_have_theirs()
     ensures { NewestFilesHaveTheirs }
 {

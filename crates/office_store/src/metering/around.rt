@@ -84,7 +84,8 @@ fn place_after(voids: &[Row], place: u64) -> Option<u64>
 }
 
 /// Returns the indices of the nearest entries around `place` that are not voided (cancelled), and
-/// whether the entry at `place` is not voided. Returns None if no entry can have the index `place`.
+/// whether the entry at `place` is not voided. Returns None if a row can't be read, or if `place`
+/// is 1 or less, or above the greatest index.
 fn sides_of(voids: &[Row], place: u64) -> Option<Sides>
     ensures following { IfSome result (λ sides. 2 ≤ place) }
     ensures place { IfSome result (λ sides. place ≤ greatest_place) }
@@ -120,7 +121,7 @@ fn row_there<S: Alter>(
     entry_at(conn, meter, place)
 }
 
-/// Queries the row of the meter entry at `place`, and the rows of its neighbours at the indices in
+/// Queries the row of the meter entry at `place`, and the rows of its neighbors at the indices in
 /// `sides`. Returns None if the row of the entry, or the row before it, is missing.
 fn rows_around<S: Alter>(
     conn: &mut Connection<S>,
@@ -161,8 +162,8 @@ fn next_row(next: &Option<EntryRow>) -> Option<meter_journal::EntryRow>
     }
 }
 
-/// Returns the state of a meter with its counter as of an earlier entry. Its energy is the meter's
-/// total energy, because the energy up to that entry is not known.
+/// Returns the state of a meter with its counter as of an earlier entry. The energy in this state
+/// is the meter's total energy, because the energy up to the earlier entry is not known.
 fn stood_after(whole: &Installation, before: &EntryRow) -> Installation
     ensures { result ≡ stood whole.now before.now }
 {

@@ -14,8 +14,8 @@ use sqlite::{Error, ErrorCode, Row};
 use std::alloc::Global;
 use store_tables::{EntryKind, RowFault, read_entry, read_void};
 
-/// Returns the row in a meter's journal (its history) for an entry that reads the counter: by a
-/// poll, by hand, or when the meter is closed.
+/// Returns the row in a meter's journal (its history) for an entry that reads the counter: a poll's
+/// reading, a manual reading, or the reading when the meter is closed.
 fn step(kind: meter_journal::EntryKind, row: store_tables::EntryRow, stands: bool) -> EntryRow
     ensures { result ≡ step_row kind row stands }
 {

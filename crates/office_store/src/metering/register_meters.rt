@@ -18,8 +18,8 @@ use sqlite::{Alter, Connection, Row};
 use std::alloc::Global;
 use store_tables::{RowFault, check_open, read_installation};
 
-/// Queries the rows of `installations` at an accounting register (a named energy counter), in the
-/// order in which the meters were installed.
+/// Queries the rows of `installations` for the meters of an accounting register (a named energy
+/// counter), in the order in which the meters were installed.
 fn rows_at<S: Alter>(conn: &mut Connection<S>, register: &str) -> Result<Vec<Row>, RowFault>
     requires { conn.old.in_transaction ≡ false }
     ensures { Finds S.Store conn.old conn.new result
@@ -42,8 +42,8 @@ fn installed_in(rows: &Vec<Row>) -> Result<Vec<store_tables::Installation>, RowF
     Ok(installed)
 }
 
-/// Queries and reads the rows of `installations` at an accounting register (a named energy
-/// counter).
+/// Queries and reads the rows of `installations` for the meters of an accounting register (a named
+/// energy counter).
 fn installed_at<S: Alter>(
     conn: &mut Connection<S>,
     register: &str,
@@ -57,7 +57,7 @@ fn installed_at<S: Alter>(
     installed_in(&rows)
 }
 
-/// Returns the state of the meter that each row of `installations` in `rows` names, in the same
+/// Returns the states of the meters that the rows of `installations` in `rows` name, in the same
 /// order.
 fn standing_all<S: Alter>(
     alloc: Global,

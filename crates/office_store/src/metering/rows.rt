@@ -12,7 +12,7 @@ use store_tables::{
     range_of,
 };
 
-/// Queries the meter's row in `installations`, which has its last entry and total energy.
+/// Queries the meter's row in `installations`. The row has the meter's last entry and total energy.
 pub(crate) fn row_of<S: Alter>(
     conn: &mut Connection<S>,
     meter: &str,

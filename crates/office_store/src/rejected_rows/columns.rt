@@ -11,8 +11,8 @@ use sqlite::Row;
 use sqlite::types::ValueRef;
 use store_tables::{GREATEST_PLACE, LATEST_MOMENT, RowFault, whole};
 
-/// Returns the cause of a rejected reading that a number in `holds` encodes, or None for any other
-/// number.
+/// Returns the cause of a rejected reading that a numeric code in the table `holds` encodes, or
+/// None for any other number.
 fn cause(number: u64) -> Option<Cause>
     ensures { result ≡ cause_of number }
 {

@@ -12,8 +12,8 @@ pub fn stops_leave_facts<D: Disk>()
     left_facts_are_found();
 }
 
-/// Theorem: if the files of a database are opened, the new connection finds the tables that the
-/// earlier connection committed.
+/// Theorem: if a connection was just opened from database files, the tables that it has committed
+/// are those that SQLite finds in the files.
 pub fn opened_files_are_found<D: Disk>()
     ensures { OpenedFilesAreFound D.Disk }
 {}

@@ -1,5 +1,5 @@
 //! Searches for the nearest meter entries before and after an entry that are not voided
-//! (cancelled). If the entry is voided, these two entries become neighbours.
+//! (cancelled). If the entry is voided, these two entries become neighbors.
 ghost use Rattle.std.specs.Prelude.{◌≤◌, IfOk};
 ghost use Rattle.sqlite.specs.Held.{state};
 ghost use Rattle.store_tables.specs.Entries.Rows.{voided_columns};

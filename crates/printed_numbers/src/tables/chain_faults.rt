@@ -37,7 +37,8 @@ static TOO_MANY_MODELS: Meaning = Meaning {
     remedy: "compare the words at the last models with the device",
 };
 
-/// Returns the meaning of the fault with the given number in a device's chain of SunSpec models.
+/// Returns the meaning of the fault with the given numeric code in a device's chain of SunSpec
+/// models.
 pub fn chain_fault(number: u32) -> Option<&'static Meaning>
     ensures { Answers ChainFault number result }
 {

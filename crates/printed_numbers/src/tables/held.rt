@@ -69,7 +69,7 @@ static NOT_BELOW_RANGE: Meaning = Meaning {
     remedy: "exchange the meter for itself under a new name, with the right RANGE",
 };
 
-/// Returns the meaning of the cause with the given number for rejecting a meter reading.
+/// Returns the meaning of the cause with the given numeric code for rejecting a meter reading.
 pub fn hold(number: u32) -> Option<&'static Meaning>
     ensures { Answers Held number result }
 {

@@ -77,7 +77,7 @@ static TAKES_NO_COMMAND: Meaning = Meaning {
     remedy: "read what the run printed on standard error, then restart it with a larger --most-kept, or with its files in place",
 };
 
-/// Returns the meaning of the HTTP fault whose number is the given response status.
+/// Returns the meaning of the HTTP fault whose numeric code is the given response status.
 pub fn http_fault(number: u32) -> Option<&'static Meaning>
     ensures { Answers HttpFault number result }
 {

@@ -37,7 +37,7 @@ static RESTART: Meaning = Meaning {
     remedy: "nothing: the next round polls again",
 };
 
-/// Returns the meaning of the cause with the given number for losing a poll.
+/// Returns the meaning of the cause with the given numeric code for losing a poll.
 pub fn loss(number: u32) -> Option<&'static Meaning>
     ensures { Answers Lost number result }
 {

@@ -45,7 +45,7 @@ static WRONG_UNIT: Meaning = Meaning {
     remedy: "compare the unit identifier with the device's settings: it is often 1, 126 or 255",
 };
 
-/// Returns the meaning of the fault with the given number in a device's malformed response.
+/// Returns the meaning of the fault with the given numeric code in a device's malformed response.
 pub fn malformation(number: u32) -> Option<&'static Meaning>
     ensures { Answers Malformed number result }
 {

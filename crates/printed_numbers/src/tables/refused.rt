@@ -142,8 +142,8 @@ static NOT_PLAUSIBLE: Meaning = Meaning {
     remedy: "void the later wrong reading first",
 };
 
-/// Returns the meaning of the reason with the given number for refusing a script line, a request or
-/// a device event.
+/// Returns the meaning of the reason with the given numeric code for refusing a script line, a
+/// request or a device event.
 pub fn refusal(number: u32) -> Option<&'static Meaning>
     ensures { Answers Refused number result }
 {

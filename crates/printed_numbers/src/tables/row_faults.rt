@@ -101,7 +101,7 @@ static TOO_MANY_ROWS: Meaning = Meaning {
     remedy: "remove the points that aren't needed",
 };
 
-/// Returns the meaning of the fault with the given number in a row of a point list.
+/// Returns the meaning of the fault with the given numeric code in a row of a point list.
 pub fn row_fault(number: u32) -> Option<&'static Meaning>
     ensures { Answers RowFault number result }
 {

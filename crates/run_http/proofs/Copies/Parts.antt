@@ -57,8 +57,8 @@ and_false : (b : Bool) → b && false ≡ false
 and_false true = refl
 and_false false = refl
 
--- If two filters agree on the first row of a list and on the rest, then they return the same rows
--- of the complete list.
+-- Two filters return the same rows of a list if two conditions hold. Both keep or both drop the
+-- first row, and both return the same rows of the rest.
 kept_same : (a b : Bool) (row : Share) (left right : List Share) → a ≡ b → left ≡ right → cond a (row ∷ left) left ≡ cond b (row ∷ right) right
 kept_same a b row left right same rest = ap (λ c. cond c (row ∷ left) left) same ∙ ap (λ rs. cond b (row ∷ rs) rs) rest
 
@@ -83,8 +83,8 @@ none_within from till (row ∷ rows) h =
     cond-false _ _ _ (ap (λ b. nat_le from row.start && b) (not_before till row.start h.0) ∙ and_false (nat_le from row.start))
     ∙ none_within from till rows h.1
 
--- If all rows start at `at` or later, a time span can begin at `at` instead of an earlier time
--- without losing rows.
+-- If all rows start at `at` or later, a time span that begins earlier has the same rows as the time
+-- span from `at` on.
 same_from : (from at till : ℕ) (rows : List Share) → from ≤ at → StartFrom at rows → rows_within (Between from till) rows ≡ rows_within (Between at till) rows
 same_from from at till [] le h = refl
 same_from from at till (row ∷ rows) le h =
@@ -97,7 +97,8 @@ of_first : (b : Bool) (row : Share) (all first others : List Share) → all ≡ 
 of_first true row all first others is = ap (λ rs. row ∷ rs) is
 of_first false row all first others is = is
 
--- The rows of a time span are the rows up to a time in it, followed by the rows from that time on.
+-- Interval rows in order of time: the rows of a time span are those before a time `at` in the span,
+-- followed by those from `at` on.
 pub in_parts : (from at till : ℕ) (rows : List Share) → Rising rows → from ≤ at → at ≤ till
     → rows_within (Between from till) rows ≡ rows_within (Between from at) rows ++ rows_within (Between at till) rows
 in_parts from at till [] rising low high = refl
@@ -118,7 +119,7 @@ in_parts from at till (row ∷ rows) rising low high =
           ∙ ap (λ rs. rs ++ rows_within (Between at till) (row ∷ rows)) (sym (none_within from at (row ∷ rows) from_at))
     ]
 
--- Selecting the rows before the end of a time span first loses no row in the span.
+-- If only the rows before the end of a time span are kept, then no row in the time span is lost.
 within_before : (from till : ℕ) (rows : List Share) → rows_within (Between from till) (rows_before till rows) ≡ rows_within (Between from till) rows
 within_before from till [] = refl
 within_before from till (row ∷ rows) =
@@ -138,7 +139,8 @@ first_tests from low first start is le =
       | inr e ↦ let over : start < first = omega (arith, is, is_above from start e) in e ∙ sym (le_false first start over)
     ]
 
--- If all rows start at `low` or later, raising the start of a time span to `low` loses no row.
+-- If all rows start at `low` or later, then a time span can begin at `low` instead of an earlier
+-- time without losing rows.
 from_first : (from low first till : ℕ) (rows : List Share) → first ≡ max from low → StartFrom low rows
     → rows_within (Between from till) rows ≡ rows_within (Between first till) rows
 from_first from low first till [] is h = refl
@@ -148,8 +150,8 @@ from_first from low first till (row ∷ rows) is h =
     (ap (λ b. b && nat_lt row.start till) (first_tests from low first row.start is h.0))
     (from_first from low first till rows is h.1)
 
--- The rows of a time span are the rows queried chunk by chunk, followed by the last rows, which are
--- queried when the response begins.
+-- The rows of a time span consist of the two parts of a streamed response: the rows queried chunk
+-- by chunk, and then the last rows, which are queried when the response begins.
 parted : (from low first last end till : ℕ) (rows : List Share) → Rising rows → StartFrom low rows → first ≡ max from low → end ≡ max first (min till last)
     → rows_within (Between from till) rows ≡ rows_within (Between first end) rows ++ rows_within (Between end till) rows
 parted from low first last end till rows rising start is ends =
@@ -206,8 +208,8 @@ opening_named facts o meter there = ap (opening_of facts) (own_name facts meter 
 rows_named : (facts : List Fact) (o : Opening) (meter : List ℕ) → opening_of facts meter ≡ Some o → rows_of_meter facts meter ≡ rows_of_opening facts o
 rows_named facts o meter there = ap (rows_of_installed facts) there
 
--- All requested rows of a meter are the rows queried chunk by chunk, followed by the last rows,
--- which are queried when the response begins.
+-- All requested rows of a meter consist of the two parts of a streamed response: the rows queried
+-- chunk by chunk, and then the last rows, which are queried when the response begins.
 pub all_parts : SharesAddUp → (facts : List Fact) (meter : List ℕ) (o : Opening) (from first last end till : ℕ) → AreLawful facts
     → opening_of facts meter ≡ Some o → first ≡ max from (quarter_of o.at) → end ≡ max first (min till last)
     → rows_between facts (Some meter) from till ≡ rows_between facts (Some meter) first end ++ rows_between facts (Some meter) end till
@@ -242,8 +244,8 @@ parts_of law facts meter None from at till h there low high =
     asked from till ∙ ap (λ rs. rs ++ []) (sym (asked from at)) ∙ ap (λ rs. rows_between facts (Some meter) from at ++ rs) (sym (asked at till))
 parts_of law facts meter (Some o) from at till h there low high = two_parts law facts meter o from at till h there low high
 
--- The rows still to be queried are the rows of the next chunk, followed by the rows of later
--- chunks.
+-- The rows that a streamed response still has to query are the rows of the next chunk, followed by
+-- the rows of later chunks.
 pub a_piece : SharesAddUp → (facts : List Fact) (meter : Option (List ℕ)) (from at till : ℕ) → AreLawful facts
     → (from ≤ till → from ≤ at) → at ≤ till → (till ≤ from → at ≡ till)
     → rows_between facts meter from till ≡ rows_between facts meter from at ++ rows_between facts meter at till
@@ -258,7 +260,8 @@ a_piece law facts (Some meter) from at till h low high none =
           ∙ ap (λ rs. rows_between facts (Some meter) from at ++ rs) (sym (none_between facts (Some meter) at till (omega (arith, same))))
     ]
 
--- Lemmas: records added later leave the rows in some time spans unchanged.
+-- Lemmas: later records that void (withdraw) no present entry of a meter leave the rows before the
+-- quarter hour of the meter's last entry unchanged.
 
 lawful_before : (further facts : List Fact) → AreLawful (further ++ facts) → AreLawful facts
 lawful_before [] facts h = h

@@ -17,8 +17,8 @@ use Rattle.meter_journal.proofs.AsEntered.{rows_are_kept}
 use Rattle.meter_journal.proofs.Keeping.{mapped_some}
 use Rattle.run_http.specs.Copies.{entries_before}
 
--- Each void (withdrawal of an entry) among the journal's lines names an entry with the sequence
--- number `place` or a higher number.
+-- States that each void (withdrawal of an entry) among the journal's lines names an entry with the
+-- sequence number `place` or a higher number.
 abbrev pub LinesFrom : (place : ℕ) → Journal → Type 0
 LinesFrom place [] = Unit {0}
 LinesFrom place (Entered k e ∷ lines) = LinesFrom place lines
@@ -43,7 +43,8 @@ rolled_place last row =
       | inr e ↦ ap (λ (r : EntryRow). r.place) (cond-false _ _ _ e)
     ]
 
--- If an entry exists, then its sequence number is below the next unused sequence number.
+-- If a meter has an entry with the sequence number `named`, then `named` is below the next unused
+-- sequence number.
 place_below : (named : ℕ) (rows : List EntryRow) (a : Around) → AreNumbered rows → row_at named rows ≡ Some a → named < length rows + 2
 place_below named [] a h there = absurd (cc)
 place_below named (row ∷ rows) a h there =

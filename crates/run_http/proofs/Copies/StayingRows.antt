@@ -1,5 +1,6 @@
--- Lemmas: if later records void (withdraw) no meter entry before some entry, all quarter hours
--- before that entry's quarter hour keep their energy.
+-- Lemmas: if later records void (withdraw) no entry of a meter below a sequence number, then
+-- earlier quarter hours keep their energy. These are the quarter hours before that of the last
+-- valid entry below this number.
 use Rattle.std.proofs.Common.{◌≡◌, ℕ, ◌+◌, ◌≤◌, cond, List, [], ◌∷◌, ◌++◌, length, map, sym, ap, subst, ◌∙◌, Some, None, arith}
 use Rattle.std.specs.Prelude.{All}
 use Rattle.std.proofs.lemmas.Bool.{cond-false}
@@ -51,8 +52,8 @@ abbrev pub quarter_before : Installed → (place : ℕ) → journal.Journal → 
 quarter_before meter place lines =
     quarter_of (last_after meter (journal.entries_in (entries_before place (journal.rows_of meter.opening lines)))).at
 
--- The entries before `place` determine all rows before the quarter hour of the last valid entry
--- before `place`.
+-- The entries with sequence numbers below `place` determine all interval rows before the quarter
+-- hour of the last valid one of these entries.
 rows_of_first : SharesAddUp → (meter : Installed) (place : ℕ) (lines : journal.Journal) → IsWellInstalled meter → AreFitting meter lines
     → let base = journal.entries_in (entries_before place (journal.rows_of meter.opening lines)) in
     rows_before (quarter_of (last_after meter base).at) (interval_rows meter lines)
@@ -136,9 +137,9 @@ still_opened (fact.Poll p ∷ further) facts meter o h there = still_opened furt
 still_opened (fact.Outcome e ∷ further) facts meter o h there = still_opened further facts meter o h.1 there
 still_opened (fact.Reply r ∷ further) facts meter o h there = still_opened further facts meter o h.1 there
 
--- If all voids (cancellations) in a meter's journal name entries from `place` on, then this is
--- still true after a record adds a line. The record adds the line only to the journal of the meter
--- that it names.
+-- Suppose that all voids (withdrawals) in a meter's journal name entries from `place` on. Then this
+-- is still true after a record adds a line, if a line for this meter voids only such entries. Lines
+-- for other meters are not in the journal.
 one_more : (place : ℕ) (line : journal.Line) (lines : journal.Journal) (meter m : List ℕ) → LinesFrom place lines
     → (meter ≡ m → LinesFrom place (line ∷ lines)) → LinesFrom place (cons_option (cond (same meter m) (Some line) None) lines)
 one_more place line lines meter m rest here =
@@ -166,8 +167,9 @@ lines_from (fact.Poll p ∷ further) meter place h = lines_from further meter pl
 lines_from (fact.Outcome e ∷ further) meter place h = lines_from further meter place (All-tail (VoidsFrom meter place) (fact.Outcome e) further h)
 lines_from (fact.Reply r ∷ further) meter place h = lines_from further meter place (All-tail (VoidsFrom meter place) (fact.Reply r) further h)
 
--- If later records void (withdraw) no entry below `place`, the meter's older quarter hours keep
--- their energy (`StaysBefore`).
+-- Suppose that later records void (withdraw) no entry of the meter with a sequence number below
+-- `place`. Then the quarter hours before that of the last valid entry below `place` keep their
+-- energy (`StaysBefore`).
 stays_before : SharesAddUp → (further facts : List Fact) (o : Opening) (place : ℕ) → AreLawful (further ++ facts) → opening_of facts o.meter ≡ Some o
     → place ≤ next_place facts o → All (VoidsFrom o.meter place) further → StaysBefore further facts o.meter o place
 stays_before law further facts o place h there le void =

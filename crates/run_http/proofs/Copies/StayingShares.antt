@@ -1,4 +1,4 @@
--- Lemmas: the energy of later entries leaves earlier quarter hours unchanged.
+-- Lemmas: entries added to a meter leave the energy of earlier quarter hours unchanged.
 use Rattle.std.proofs.Common.{◌≡◌, ℕ, ◌+◌, ◌<◌, ◌≤◌, ◌==◌, nat_lt, nat_le, Bool, true, false, cond, ◌&&◌, List, [], ◌∷◌, ◌++◌, refl, sym, ap, ◌∙◌, inl, inr, arith}
 use Rattle.std.specs.Prelude.{All}
 use Rattle.std.proofs.lemmas.Bool.{cases_Bool, cond-true, cond-false, eqb-true}
@@ -54,7 +54,7 @@ all_from : (moment : ℕ) (shares : List Share) → ((s : ℕ) → Among s share
 all_from moment [] h = tt
 all_from moment (share ∷ shares) h = (h share.start (inl refl), all_from moment shares (λ s there. h s (inr there)))
 
--- If the time span `step` between two entries begins at `moment` or later, then its rows start at
+-- If a step (the time between two entries) begins at `moment` or later, its interval rows start at
 -- the quarter hour of `moment` or later.
 shares_start : SharesAddUp → (step : Step) (moment : ℕ) → step.from < step.till → moment ≤ step.from → StartFrom (quarter_of moment) (shares_of step)
 shares_start law step moment forward le =
@@ -89,7 +89,7 @@ before_row moment from row rows le =
           ap (rows_before from) (cond-false _ _ _ e) ∙ sym (cond-false _ _ _ (not_before from row.start (omega (arith, ge, le))))
     ]
 
--- Selecting the rows before a later time first loses no row before an earlier time.
+-- If only the rows before the time `moment` are kept, then no row before an earlier time is lost.
 pub before_earlier : (moment from : ℕ) (rows : List Share) → from ≤ moment → rows_before from (rows_before moment rows) ≡ rows_before from rows
 before_earlier moment from [] le = refl
 before_earlier moment from (row ∷ rows) le =

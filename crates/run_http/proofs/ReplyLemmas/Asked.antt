@@ -20,7 +20,7 @@ use Rattle.office_http.specs.declared.messages.routing.targets.Found.{Found}
 use Rattle.interval_core.specs.Lines.{intervals_text}
 use Rattle.run_http.specs.OfficeRequests.{AsksAllRows}
 
--- If the head of a query (GET) is complete, then the query is complete, since it has no body.
+-- If the head of a GET request is complete, then the request is complete, because it has no body.
 whole : (table : Table) (bytes : List ℕ) (at : Head) (found : Found) → IsHeadAt bytes at → TestsHead table (start_at bytes at) (Ok (Question found))
     → IsWhole table bytes at
 whole table bytes at found head tests = record {

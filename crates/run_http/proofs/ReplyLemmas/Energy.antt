@@ -31,8 +31,8 @@ taken_all contents days (day ∷ more) from at to has took =
     subst P (append_assoc days (day ∷ []) more)
     (taken_all contents (days ++ day ∷ []) more from took.0 to (took.1.taken from days has) took.2)
 
--- If the program hands over all days, and the remaining text of the report is written, then the
--- output has the complete report.
+-- If the report receives all days, and the remaining text of the report is written, then the output
+-- has the complete energy report.
 written : {W : Type 0} (E : Type 0) (contents : W → Option (List ℕ)) (zone : Zone) (past : History) (register : Option (List ℕ)) (form : ReportForm)
     (before after : Failures) (from to left : ReportRows W) (output : W) (answer reported : Result (Unit {0}) Refusal)
     → IsFresh contents form output from
@@ -49,7 +49,8 @@ written {W} E contents zone past register form before after from to left output 
     (days, hands.whole.are, rw (sym fresh.output) (subst Q text got))
 written E contents zone past register form before after from to left output (Err why) reported fresh hands last = tt
 
--- After one query of the store, the output has the complete energy report, or the call has failed.
+-- After the function `write_energy` queried the store, its output has the complete energy report,
+-- or the function returns an error.
 pub reports : {B W E : Type 0} (ledger : B → Ledger) (contents : W → Option (List ℕ)) (old new : Office B) (register : Option (List ℕ)) (form : ReportForm)
     (from to left : ReportRows W) (output holds : W) (answer : Result (Unit {0}) Refusal) (result : Result (Result (Unit {0}) Refusal) E)
     → IsFresh contents form output from → ReportsDaysWithin (TakesDay contents) ledger old new from to answer register form.range
@@ -101,8 +102,8 @@ replied ledger old new register form had holds from to reported (Err why) asked 
   puts = tt;
 }
 
--- If memory runs out for the report, then the call fails, and its postcondition `RepliesEnergy`
--- holds.
+-- If memory for the energy report runs out, then the function `reply_energy` returns an error, and
+-- its postcondition `RepliesEnergy` holds.
 pub lacked : {B E F : Type 0} (ledger : B → Ledger) (old new : Office B) (register : Option (List ℕ)) (form : ReportForm) (had holds : Option (List ℕ))
     (from to : List ℕ) (asked : Result (Result (Unit {0}) Refusal) F) (result : Result (Unit {0}) E)
     → AsksEnergy ledger old new register form had holds asked → IsErr result → RepliesEnergy ledger old new register form from to result

@@ -1,5 +1,5 @@
--- Lemmas on a call of the crate `office_http` that reads its request from memory, and writes its
--- response to memory.
+-- Lemmas on the function `handle` of the crate `office_http`, for a request that it reads from
+-- memory and a response that it writes to memory.
 use Rattle.std.proofs.Common.{◌≡◌, ℕ, List, [], Option, Some, Result, subst, ap, sym, ◌∙◌}
 use Rattle.mb_wire.specs.declared.link.LastTake.{LastTake}
 use Rattle.office_books.specs.Ledgers.{Ledger}

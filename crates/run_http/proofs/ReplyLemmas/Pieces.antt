@@ -43,13 +43,13 @@ use Rattle.run_http.proofs.ReplyLemmas.Voids.{mapped}
 
 -- Lemmas on the text lines of interval rows in a response.
 
--- The lines of the rows, and the last line with the number of rows, which also counts `reported`
--- rows written earlier.
+-- The lines of the rows, and the last line with the number of rows. This number also counts the
+-- `reported` rows that were written earlier.
 abbrev text_of : (reported : ℕ) → List Share → List ℕ
 text_of reported rows = flat_map share_line rows ++ end_line (reported + length rows)
 
--- The text that remains before a chunk equals the lines of the chunk, followed by the text that
--- remains after the chunk.
+-- The text that remains before a chunk of a streamed response consists of the chunk's lines and the
+-- text that remains after the chunk.
 pub reported_on : (from to : List ℕ) (piece others : List Share) (reported later : ℕ) → to ≡ from ++ flat_map share_line piece → later ≡ reported + length piece
     → to ++ text_of later others ≡ from ++ text_of reported (piece ++ others)
 reported_on from to piece others reported later put counted =
@@ -60,7 +60,8 @@ reported_on from to piece others reported later put counted =
     ∙ ap (λ t. from ++ (t ++ end_line (later + length others))) (sym (flat_map-append share_line piece others))
     ∙ ap (λ n. from ++ (flat_map share_line (piece ++ others) ++ end_line n)) count
 
--- Lemmas on the beginning of a streamed response.
+-- Lemmas on the start of a streamed response: its first bytes, and the rows that are still to be
+-- sent.
 
 end_settled : (first till last end : ℕ) → end ≡ max first (min till last) → first < end → end ≤ last
 end_settled first till last end is lt = omega (arith, is, lt)
@@ -113,7 +114,8 @@ module _ {B : Type 0} (ledger : B → Ledger) (old new : Office B) where
             subst (λ (i : Option Installation). left.till ≤ last_quarter i) (sym known) (omega (arith, upto, high));
       }
 
-  -- If the program refuses a query for rows of an installed meter, then the store or memory failed.
+  -- If the program refuses a query for interval rows of an installed meter, then the store or
+  -- memory failed.
   failed : (facts : List Fact) (it : Installation) (from till : ℕ) (before after : Failures) (why : Refusal) → meter_of facts it.opening.meter ≡ Some it
       → IsListed (intervals_within facts (Some it.opening.meter) (Between from till)) before after (Err why) → IsOutside ⊥ before after why
   failed facts it from till before after why there listed =
@@ -167,8 +169,8 @@ module _ {B : Type 0} (ledger : B → Ledger) (old new : Office B) where
     );
   }
 
-  -- If memory runs out for the rows, then the call fails, and its postcondition `BeginsReply`
-  -- holds.
+  -- If memory for the interval rows runs out, then the function `begin_rows` returns an error, and
+  -- its postcondition `BeginsReply` holds.
   pub begins_lacked : {E F : Type 0} (it : Installation) (from till end : ℕ) (fault : F) (result : Result (Result RemainingRows Refusal) E)
       → AsksRows ledger old new (λ facts. intervals_within facts (Some it.opening.meter) (Between end till)) (Err fault) → IsErr result
       → BeginsReply ledger old new it from till intervals_text [] result
@@ -224,7 +226,8 @@ failed_some : (before after : Failures) (why : Refusal) → IsRowFound {T = Unit
 failed_some before after why (inl is) = cc is.0
 failed_some before after why (inr fault) = fault
 
--- If rows are measured one by one, then the result is the sizes of all rows.
+-- If interval rows are measured one by one, then the result has the number of all rows and the size
+-- of all their lines.
 all_sized : (old new : RowSizes) (rows : List Share) → TakesAll SizesRow old rows new → new.is_whole ≡ true
     → (old.is_whole ≡ true) × (new.sizes.bytes ≡ old.sizes.bytes + length (flat_map share_line rows)) × (new.sizes.count ≡ old.sizes.count + length rows)
 all_sized old new [] is whole = (
@@ -302,7 +305,8 @@ module _ {B : Type 0} (ledger : B → Ledger) (old mid new : Office B) where
     sizes = (refl, λ past stands clean. (reports past stands clean).answer);
   }
 
-  -- If memory runs out for a line, then the call fails, and its postcondition `SizesRows` holds.
+  -- If memory for the line of a row runs out, then the function `ask_sizes` returns an error, and
+  -- its postcondition `SizesRows` holds.
   pub sizes_none : {E : Type 0} (left : RemainingRows) (answer : Result (Unit {0}) Refusal) (result : Result (Result Sizes Refusal) E)
       → OnlyAsks ledger mid new answer → IsErr result → SizesRows ledger mid new left result
   sizes_none left answer (Ok reported) asks is = cc is
@@ -314,8 +318,8 @@ module _ {B : Type 0} (ledger : B → Ledger) (old mid new : Office B) where
       → BeginsReply ledger old mid it from till reply put {E = E} (Ok (Ok left)) → OnlyAsks {T = Unit {0}} ledger old mid (Ok tt)
   first_asks it from till reply put left begins = subst (λ (a : Result (Unit {0}) Refusal). OnlyAsks ledger old mid a) begins.begins.0 begins.asks
 
-  -- If the call queries the store a second time, then the response still begins as `BeginsReply`
-  -- states.
+  -- If the function that begins a streamed response queries the store twice, then both queries
+  -- together change no record of the store.
   pub then_asks : {E : Type 0} (it : Installation) (from till : ℕ) (reply : List Share → List ℕ) (put : List ℕ) (left : RemainingRows)
       (answer : Result (Unit {0}) Refusal) → BeginsReply ledger old mid it from till reply put {E = E} (Ok (Ok left)) → OnlyAsks ledger mid new answer
       → OnlyAsks ledger old new answer
@@ -367,8 +371,8 @@ module _ {B : Type 0} (ledger : B → Ledger) (old mid new : Office B) where
         );
       }
 
-  -- If memory runs out while rows are measured, then the call fails, and its postcondition
-  -- `BeginsReply` holds.
+  -- If memory runs out while interval rows are measured, then the function `begin_intervals`
+  -- returns an error, and its postcondition `BeginsReply` holds.
   pub sizes_lacked : {E F : Type 0} (it : Installation) (from till : ℕ) (text put : List ℕ) (left : RemainingRows) (answer : Result (Unit {0}) Refusal)
       (result : Result (Result RemainingRows Refusal) F) → BeginsReply ledger old mid it from till intervals_text [] {E = E} (Ok (Ok left))
       → OnlyAsks ledger mid new answer → IsErr result → BeginsReply ledger old new it from till (with_rows text) put result
@@ -376,8 +380,8 @@ module _ {B : Type 0} (ledger : B → Ledger) (old mid new : Office B) where
   sizes_lacked it from till text put left answer (Err why) begins asks is =
       record { answer = answer; asks = then_asks it from till intervals_text [] left answer begins asks; begins = tt }
 
--- If the query is refused or memory runs out before any byte is written, then the call satisfies
--- `BeginsReply` for any response.
+-- If the program refuses a query while a streamed response begins, then `BeginsReply` holds for any
+-- response and any written bytes.
 module _ {B : Type 0} (ledger : B → Ledger) (old new : Office B) where
   pub refused_so : {E F : Type 0} (it : Installation) (from till : ℕ) (reply other : List Share → List ℕ) (put text : List ℕ) (why : Refusal)
       → BeginsReply ledger old new it from till reply put {E = E} (Ok (Err why)) → BeginsReply ledger old new it from till other text {E = F} (Ok (Err why))
@@ -389,8 +393,8 @@ module _ {B : Type 0} (ledger : B → Ledger) (old new : Office B) where
   lacked_so it from till reply other put text fault (Ok reported) begins is = cc is
   lacked_so it from till reply other put text fault (Err why) begins is = record { answer = begins.answer; asks = begins.asks; begins = tt }
 
-  -- If the head without Content-Length is written, then the response with all quarter hours of the
-  -- meter has begun as `BeginsReply` states.
+  -- If the head without Content-Length is written, then the streamed response with all quarter
+  -- hours of the meter has started as `BeginsReply` states.
   pub with_text_head : {E F : Type 0} (it : Installation) (from till : ℕ) (text put : List ℕ) (left : RemainingRows)
       → BeginsReply ledger old new it from till intervals_text [] {E = E} (Ok (Ok left)) → put ≡ text ++ text_head
       → BeginsReply ledger old new it from till (with_all_rows text) put {E = F} (Ok (Ok left))
@@ -440,8 +444,8 @@ text_stays law further facts meter o left h there named settled void =
     ∙ ap (λ m. rows_between facts m left.from left.till) (sym named) in
     ap (λ rs. text_of left.reported (rs ++ left.last.items)) same
 
--- If the rows still to be queried start before the quarter hour of the meter's last entry, then the
--- rows after the next chunk do too.
+-- If new entries cannot change the rows of a streamed response that are still to be queried, this
+-- is also true after the next chunk.
 settled_on : (facts : List Fact) (left later : RemainingRows) (seconds : ℕ) → MovesOn left later seconds → IsSettled facts left → IsSettled facts later
 settled_on facts left later seconds moves settled = λ lt.
     let last : ℕ = last_quarter (option_and_then (meter_of facts) left.meter) in
@@ -453,8 +457,8 @@ settled_on facts left later seconds moves settled = λ lt.
     ] in
     omega (arith, upto, same, moves.till)
 
--- States that after some chunks of a streamed response, its meter is unchanged. The written text
--- and the remaining text together are the same as before.
+-- States the effect of some chunks of a streamed response. The written text and the remaining text
+-- together are the same as before. New entries can't change rows that are still to be queried.
 record Goes (facts : List Fact) (meter : List ℕ) (left later : RemainingRows) (before after : List ℕ) : Type 0 where
   named : later.meter ≡ Some meter
   settled : IsSettled facts later

@@ -1,4 +1,4 @@
--- Lemmas: bytes that are not UTF-8 are not the text of a day.
+-- Lemmas: if bytes are not valid UTF-8, then they are not the text of a day such as `2026-11-25`.
 use Rattle.std.proofs.Common.{ℕ, zero, suc, ◌/◌, ◌%◌, ◌≤◌, ◌<◌, List, [], ◌∷◌, ◌++◌, None, subst, arith}
 use Rattle.std.specs.Prelude.{ℤ, pos, negsuc, ◌≤ℤ◌}
 use Rattle.std.specs.Str.{IsAscii, IsUtf8}

@@ -1,4 +1,4 @@
--- Lemmas: the voided (withdrawn) entries of a meter are collected chunk by chunk.
+-- Lemmas: the program collects the voided (withdrawn) entries of a meter chunk by chunk.
 use Rattle.std.proofs.Common.{◌≡◌, ◌⊎◌, ℕ, ◌+◌, ◌<◌, true, Option, Some, None, List, ◌∷◌, [], ◌++◌, take, drop, length, get_or, refl, sym, ap, subst, ◌∙◌, append_assoc}
 use Rattle.std.specs.Prelude.{Ok, Err}
 use Rattle.std.specs.Option.{option_map, option_and_then}
@@ -30,8 +30,8 @@ use Rattle.office_books.proofs.Pieces.{last_piece, one_piece_more, piece_at}
 
 -- Lemmas on the voided (cancelled) entries among the entries of one chunk.
 
--- If the list has the voided entries among a chunk's first `i` entries, then it is also correct for
--- `i + 1` entries. The program appends the next entry exactly if that entry is voided.
+-- Suppose that a list has the voided (withdrawn) entries among a chunk's first `i` entries. If the
+-- next entry is appended exactly if it is voided, then the list is correct for `i + 1` entries.
 pub one_more : (piece : List MeterEntry) (i : ℕ) (any : MeterEntry) (before mid after : List MeterEntry) → i < length piece
     → mid ≡ before ++ voided_in (take i piece) → after ≡ mid ++ voided_in (get_or piece i any ∷ []) → after ≡ before ++ voided_in (take (i + 1) piece)
 one_more piece i any before mid after lt kept more =
@@ -50,15 +50,15 @@ pub mapped : {X Y : Type 0} (f : X → Y) (o : Option X) (y : Y) → option_map 
 mapped f None y is = absurd (cc is)
 mapped f (Some x) y is = (x, refl, some_same (f x) y is)
 
--- If the query for one list of a meter is refused, the query for another list of that meter is
--- refused for the same reason.
+-- Suppose that the program refuses a query for one list of a meter (such as its entries). Then it
+-- refuses queries for other lists of the meter for the same reason.
 refused_as : {X T U : Type 0} (f : X → List T) (g : X → List U) (o : Option X) (before mid after : Failures) (why : Refusal) → mid ≡ before
     → IsListed (option_map f o) mid after (Err why) → IsListed (option_map g o) before after (Err why)
 refused_as f g None before mid after why is listed = subst (λ was. ((why ≡ refusal.NotFound) × (after ≡ was)) ⊎ IsOutside ⊥ was after why) is listed
 refused_as f g (Some x) before mid after why is listed = subst (λ was. IsOutside ⊥ was after why) is listed
 
 module _ {B : Type 0} (ledger : B → Ledger) where
-  -- The list has the voided (cancelled) entries among the first `n` entries of the meter.
+  -- States that `kept` has the voided (withdrawn) entries among the first `n` entries of the meter.
   abbrev pub AreKept : (a b : Office B) → (meter : Option (List ℕ)) → (n : ℕ) → List MeterEntry → Type 0
   AreKept a b meter n kept = After ledger a b (λ past. (opening : Opening)
       → option_and_then (opening_of (facts_of past)) meter ≡ Some opening
@@ -134,8 +134,8 @@ module _ {B : Type 0} (ledger : B → Ledger) where
         (failures_of ledger d) why keeps.failures (lists past (keeps.stands past stands) clean);
   }
 
-  -- If memory runs out for the entries, then the call fails, and its postcondition `AsksRows`
-  -- holds.
+  -- If memory for the entries runs out, then the function `ask_voids` returns an error, and its
+  -- postcondition `AsksRows` holds.
   pub no_room : {E : Type 0} (a b : Office B) (meter : Option (List ℕ)) (fault : E) → (is_stopped a ≡ true → ⊥) → Keeps ledger a b
       → AsksRows ledger a b (λ facts. voids_of facts meter) (Err fault)
   no_room a b meter fault goes keeps = record {

@@ -45,13 +45,13 @@ with_entry text row meter =
     with_labels text (codes "\nsunreg_last_entry_timestamp_seconds{meter=\"") row meter
     ++ codes "\"} " ++ decimal meter.last.at
 
--- The energy metric of the meter at an accounting register, if the meter is open. A register
+-- The energy metric of the latest meter of an accounting register, if the meter is open. A register
 -- without an open meter has no line.
 abbrev pub with_energy_of : List ℕ → SiteRow → Option Installation → List ℕ
 with_energy_of text row None = text
 with_energy_of text row (Some meter) = if meter.ended then text else with_energy text row meter
 
--- The metric with the time of the last entry of the meter at an accounting register, if the meter
+-- The metric with the time of the last entry of an accounting register's latest meter, if the meter
 -- is open. A register without an open meter has no line.
 abbrev pub with_entry_of : List ℕ → SiteRow → Option Installation → List ℕ
 with_entry_of text row None = text

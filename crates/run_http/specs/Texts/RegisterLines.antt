@@ -1,5 +1,5 @@
--- The text lines of the meters at an accounting register (a named energy counter), and a last line
--- with the number of meters.
+-- The text lines of an accounting register's past and present meters, and a last line with the
+-- number of meters. An accounting register is a named energy counter.
 use Rattle.std.specs.Prelude.{ℕ, Bool, true, false, List, ◌++◌, length, flat_map, codes, decimal}
 use Rattle.std.specs.Fmt.{signed_decimal}
 use Rattle.energy_core.specs.declared.entries.Last.{Last}

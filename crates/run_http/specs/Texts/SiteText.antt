@@ -13,8 +13,9 @@ with_last text row =
     text ++ codes "\",\"at\":" ++ decimal row.last.at ++ codes ",\"last\":" ++ decimal row.last.raw
     ++ codes ",\"sf\":" ++ signed_decimal row.last.sf
 
--- The part of a meter's energy that earlier database files of the store recorded, in mWh, as a
--- string of digits. It is missing if the earlier files do not have the meter.
+-- The JSON member with the part of a meter's energy that earlier database files of the store
+-- recorded, in mWh, as a string of digits. The member is missing if the earlier files do not have
+-- the meter.
 abbrev pub with_earlier : List ℕ → Option ℕ → List ℕ
 with_earlier text None = text
 with_earlier text (Some mwh) = text ++ codes "\",\"earlier\":\"" ++ decimal mwh
@@ -25,8 +26,8 @@ with_total text row earlier =
     with_earlier (text ++ codes ",\"total\":\"" ++ decimal row.total) earlier
     ++ codes "\",\"ended\":" ++ bool_text row.ended
 
--- The meter at an accounting register as JSON, or `null`. Names consist of letters, digits, `_` and
--- `-`, so JSON need not escape them.
+-- The latest meter of an accounting register as JSON, or `null` if there is none. Names consist of
+-- letters, digits, `_` and `-`, so JSON need not escape them.
 abbrev pub with_meter : List ℕ → Option Installation → (earlier : Option ℕ) → List ℕ
 with_meter text None earlier = text ++ codes "\",\"meter\":null"
 with_meter text (Some row) earlier =
@@ -38,7 +39,7 @@ with_register before text row =
     text ++ before ++ row.register.device
     ++ codes "\",\"register\":\"" ++ row.register.name
 
--- An accounting register with its meter, as JSON.
+-- An accounting register with its latest meter, as JSON.
 abbrev pub with_line : (before : List ℕ) → List ℕ → SiteLine → List ℕ
 with_line before text line =
     with_meter (with_register before text line.row) line.row.meter line.earlier ++ codes "}"
@@ -55,7 +56,8 @@ with_lines text [] = text
 with_lines text (line ∷ lines) =
     with_more_lines (with_line (codes "{\"device\":\"") text line) lines
 
--- The complete JSON of `/site`: the time of the query, and the registers with their meters.
+-- The complete JSON of `/site`: the time of the query, and the accounting registers with their
+-- latest meters.
 abbrev pub with_site : List ℕ → (at : ℕ) → List SiteLine → List ℕ
 with_site text at lines =
     with_lines (text ++ codes "{\"at\":" ++ decimal at ++ codes ",\"registers\":[") lines

@@ -1,4 +1,5 @@
-//! Messages for operators: what a printed error number means, and what a device lacks in the store.
+//! Messages for operators: what a printed error number means, and what is missing in the store for
+//! a device.
 
 mod lacks;
 mod reported;

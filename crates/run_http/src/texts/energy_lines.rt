@@ -102,7 +102,7 @@ fn write_entry(text: &mut Vec<u8>, row: &SiteRow, meter: &Installation) -> Resul
     write_number(text, b"\"} ", meter.last.at)
 }
 
-// Appends the energy metric of the meter at an accounting register, if the meter is open.
+// Appends the energy metric of the latest meter of an accounting register, if the meter is open.
 fn write_energy_of(text: &mut Vec<u8>, row: &SiteRow) -> Result<(), AllocError>
     ensures { OnOk result (text.new.items
         ≡ energy.with_energy_of text.old.items row.now row.now.meter) }
@@ -113,8 +113,8 @@ fn write_energy_of(text: &mut Vec<u8>, row: &SiteRow) -> Result<(), AllocError>
     }
 }
 
-// Appends the metric with the time of the last entry of the meter at an accounting register, if the
-// meter is open.
+// Appends the metric with the time of the last entry of an accounting register's latest meter, if
+// the meter is open.
 fn write_entry_of(text: &mut Vec<u8>, row: &SiteRow) -> Result<(), AllocError>
     ensures { OnOk result (text.new.items
         ≡ energy.with_entry_of text.old.items row.now row.now.meter) }
@@ -144,7 +144,7 @@ fn write_entries(text: &mut Vec<u8>, rows: &[SiteRow]) -> Result<(), AllocError>
 }
 
 /// Appends the energy metrics of the open meters, and the time of each meter's last entry. If
-/// memory runs out, a part of the text remains.
+/// memory runs out, only a part of the text was appended.
 pub(crate) fn write_meters(text: &mut Vec<u8>, rows: &[SiteRow]) -> Result<(), AllocError>
     ensures { OnOk result (text.new.items ≡ energy.with_meters text.old.items rows.now) }
 {

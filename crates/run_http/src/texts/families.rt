@@ -1,4 +1,4 @@
-//! Formats the description of a metric, in Prometheus's text format.
+//! Formats the description of a metric (its `HELP` and `TYPE` lines), in Prometheus's text format.
 ghost use Rattle.std.specs.Prelude.{◌≡◌, ◌++◌, OnOk, codes};
 ghost use Rattle.run_http.specs.Texts.Families as families;
 

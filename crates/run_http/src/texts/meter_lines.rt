@@ -11,7 +11,7 @@ use meter_journal::{EntryKind, EntryRow};
 use office_books::MeterEntry;
 use std::alloc::AllocError;
 
-/// Appends the last line of a response with rows: the number of rows.
+/// Appends the last line of a plain-text response with rows: the word `end` and the number of rows.
 pub(crate) fn append_end(text: &mut Vec<u8>, count: usize) -> Result<(), AllocError>
     ensures { OnOk result (text.new.items ≡ text.old.items ++ end_line count) }
 {
@@ -41,7 +41,7 @@ pub(crate) fn write_share_lines(text: &mut Vec<u8>, rows: &[Share]) -> Result<()
 }
 
 /// Appends a line for each quarter hour of a meter, and a last line with their number. If memory
-/// runs out, a part of the text remains.
+/// runs out, only a part of the text was appended.
 pub fn write_shares(text: &mut Vec<u8>, rows: &[Share]) -> Result<(), AllocError>
     ensures { OnOk result (text.new.items ≡ text.old.items ++ intervals_text rows.now) }
 {
@@ -134,7 +134,7 @@ fn write_entry_lines(text: &mut Vec<u8>, entries: &[MeterEntry]) -> Result<(), A
 }
 
 /// Appends a line for each entry of a meter, and a last line with their number. If memory runs out,
-/// a part of the text remains.
+/// only a part of the text was appended.
 pub fn write_entries(text: &mut Vec<u8>, entries: &[MeterEntry]) -> Result<(), AllocError>
     ensures { OnOk result (text.new.items ≡ text.old.items ++ lines.entries_text entries.now) }
 {
@@ -153,8 +153,8 @@ fn moment(entry: &Entry) -> u64
     }
 }
 
-// Appends the line of a voided (withdrawn) meter entry. The opening (the first entry of a meter)
-// has no such line.
+// Appends the line of a voided (withdrawn) meter entry other than the opening (the first entry of a
+// meter).
 fn write_voided_row(text: &mut Vec<u8>, row: &EntryRow) -> Result<(), AllocError>
     ensures { OnOk result (text.new.items ≡ text.old.items ++ lines.void_row_line row.now) }
 {
@@ -187,8 +187,8 @@ fn write_void_lines(text: &mut Vec<u8>, entries: &[MeterEntry]) -> Result<(), Al
 }
 
 /// Appends a line for each voided (withdrawn) entry of a meter, and a last line with their number.
-/// The line of an entry has its sequence number, its kind and its time. If memory runs out, a part
-/// of the text remains.
+/// The line of an entry has its sequence number, its kind and its time. If memory runs out, only a
+/// part of the text was appended.
 pub fn write_voids(text: &mut Vec<u8>, entries: &[MeterEntry]) -> Result<(), AllocError>
     ensures { OnOk result (text.new.items ≡ text.old.items ++ lines.voids_text entries.now) }
 {

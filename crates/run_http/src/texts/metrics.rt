@@ -181,7 +181,7 @@ fn write_devices(text: &mut Vec<u8>, devices: &[DeviceState]) -> Result<(), Allo
 }
 
 /// Appends all metrics. The energy of meters is in Wh with three decimals, since the store has it
-/// in mWh. If memory runs out, a part of the text remains.
+/// in mWh. If memory runs out, only a part of the text was appended.
 pub fn write_metrics(
     text: &mut Vec<u8>,
     counts: &Counts,

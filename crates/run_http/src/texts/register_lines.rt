@@ -1,4 +1,4 @@
-//! Formats the meters at an accounting register as lines of text.
+//! Formats the past and present meters of an accounting register as text, one line for each meter.
 ghost use Rattle.std.specs.Prelude.{◌≡◌, ◌++◌, OnOk, flat_map};
 ghost use Rattle.run_http.specs.Texts.RegisterLines as lines;
 
@@ -45,8 +45,8 @@ fn write_meter_lines(text: &mut Vec<u8>, rows: &[Installation]) -> Result<(), Al
     Ok(())
 }
 
-/// Appends a line for each meter, and a last line with their number. If memory runs out, a part of
-/// the text remains.
+/// Appends a line for each meter in `rows`, and a last line with their number. If memory runs out,
+/// only a part of the text was appended.
 pub fn write_register_meters(text: &mut Vec<u8>, rows: &[Installation]) -> Result<(), AllocError>
     ensures { OnOk result (text.new.items ≡ text.old.items ++ lines.meters_text rows.now) }
 {

@@ -8,8 +8,10 @@ use office_core::SiteRow;
 use office_events::Installation;
 use std::alloc::AllocError;
 
-/// An accounting register with its latest meter. `earlier` is the part of the meter's energy in mWh
-/// that is in earlier database files of the store, or `None` if they lack the meter.
+/// An accounting register with the meter that was assigned to it last.
+///
+/// `earlier` is the part of the meter's energy that earlier database files of the store recorded,
+/// in mWh. `earlier` is `None` if these files do not have the meter.
 #[derive(Clone, Copy)]
 pub struct SiteLine {
     pub row: SiteRow,
@@ -57,7 +59,7 @@ fn write_total(
     write_bool(text, b"\",\"ended\":", row.ended)
 }
 
-// Appends the meter at an accounting register as JSON, or `null` if there is none.
+// Appends the latest meter of an accounting register as JSON, or `null` if there is none.
 fn append_meter(
     text: &mut Vec<u8>,
     meter: &Option<Installation>,
@@ -112,9 +114,9 @@ fn write_lines(text: &mut Vec<u8>, lines: &[SiteLine]) -> Result<(), AllocError>
     }
 }
 
-/// Appends the JSON of `/site`: the accounting registers and their meters. `moment` is the time of
-/// the query in seconds since 1970-01-01 UTC, and energy is in mWh. If memory runs out, a part of
-/// the JSON remains.
+/// Appends the JSON of `/site`: the accounting registers and their latest meters. `moment` is the
+/// time of the query in seconds since 1970-01-01 UTC, and energy is in mWh. If memory runs out,
+/// only a part of the JSON was appended.
 pub fn write_site(text: &mut Vec<u8>, moment: u64, lines: &[SiteLine]) -> Result<(), AllocError>
     ensures { OnOk result (text.new.items ≡ json.with_site text.old.items moment lines.now) }
 {

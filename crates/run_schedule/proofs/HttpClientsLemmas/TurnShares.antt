@@ -4,8 +4,8 @@ use Rattle.std.specs.Prelude.{◌==◌, ◌||◌, sum_by}
 use Rattle.std.proofs.lemmas.List.Sums.{sum_by-cons}
 use Rattle.run_schedule.specs.HttpClients.TurnShares.{AreFew, MayReply, left_after}
 
--- If `part` of a limit is used, and a response uses `one` more, then the remaining limit is the
--- limit minus the sum of both.
+-- If earlier responses use `part` of a limit, and one response uses `one` more, then the limit
+-- minus both remains.
 less : (left one all part total : ℕ) → left ≡ all - part → total ≡ one + part → left - one ≡ all - total
 less left one all part total same more = omega (arith, same, more)
 
@@ -27,7 +27,8 @@ left_milliseconds (one ∷ earlier) =
     less (left_after earlier).milliseconds one.1 20 (sum_by (λ (reply : ℕ × ℕ). reply.1) earlier) (sum_by (λ (reply : ℕ × ℕ). reply.1) (one ∷ earlier))
     (left_milliseconds earlier) (sum_by-cons (λ (reply : ℕ × ℕ). reply.1) one earlier)
 
--- If a limit is not used up, then the responses so far used less than the limit.
+-- If a limit of the main loop's iteration is not used up, then the responses so far used less than
+-- the limit.
 below : (left all part : ℕ) → left ≡ all - part → 0 < left → part < all
 below left all part same some = omega (arith, same, some)
 

@@ -1,13 +1,13 @@
 -- Limits the bytes of HTTP responses in memory that clients have not yet read.
 use Rattle.std.specs.Prelude.{◌≡◌, ℕ, ◌+◌, ◌-◌, ◌<◌, ◌≤◌, nat_lt, Bool, true, List, [], ◌∷◌}
 
--- True if the server may answer another request. The unread responses in memory must have less than
--- 4 MiB, which is 64 KiB for each client slot.
+-- True if the server may answer another request: the unread responses in memory take less than 4
+-- MiB in total. This is 64 KiB for each client slot.
 abbrev pub may_reply : (held : ℕ) → Bool
 may_reply held = nat_lt held 4194304
 
--- A change of the bytes of unread responses in memory. Either the server made a response of this
--- many bytes, or it dropped this many bytes.
+-- A change of the number of bytes that unread responses take in memory. Either the server made a
+-- response of this many bytes, or it dropped this many bytes.
 pub data Change : Type 0 where
   Made : ℕ → Change
   Dropped : ℕ → Change
@@ -26,8 +26,8 @@ MayHold longest (Made bytes ∷ earlier) =
     (may_reply (held_after earlier) ≡ true) × (bytes ≤ longest) × MayHold longest earlier
 MayHold longest (Dropped bytes ∷ earlier) = MayHold longest earlier
 
--- Theorem: if each response is made while `may_reply` allows it, the unread responses have less
--- than 4 MiB plus the longest response.
+-- Theorem: if each response is made while `may_reply` allows it, the unread responses take less
+-- than 4 MiB plus the size of the longest response.
 abbrev pub HoldsLittle : Type 0
 HoldsLittle = (longest : ℕ) (changes : List Change) → MayHold longest changes
     → held_after changes < 4194304 + longest

@@ -1,4 +1,4 @@
--- The slots of HTTP connections, and which slot a new connection gets.
+-- Defines the slots of HTTP connections, and which slot a new connection gets.
 use Rattle.std.specs.Prelude.{◌≡◌, ℕ, ◌<◌, ◌≤◌, nat_le, nat_lt, if◌then◌else◌, Bool, true, false, List, length, position, slice_set, slice_get, Option, None, Some}
 use Rattle.run_schedule.specs.declared.http_clients.place.Place.{Place}
 use Rattle.run_schedule.specs.declared.http_clients.place.Place.TheVariants.{Free, Silent, Asked}
@@ -32,8 +32,9 @@ silent_until (Asked until) = None
 abbrev pub IsSilentAt : List Place → (place until : ℕ) → Type 0
 IsSilentAt places place until = slice_get places place ≡ Some (Silent until)
 
--- The idle connection with the earlier deadline: `best` or the connection in slot `i`. The result
--- and `best` are pairs of a slot and its deadline.
+-- The idle connection with the earlier deadline: `best` or the connection in slot `i`. If slot `i`
+-- has no idle connection, the result is `best`. The result and `best` are pairs of a slot and its
+-- deadline.
 abbrev pub older : Option (ℕ × ℕ) → ℕ → Place → Option (ℕ × ℕ)
 older best i Free = best
 older best i (Asked until) = best
@@ -57,8 +58,9 @@ IsChosenAfter None places chosen = IsOldest places chosen
 abbrev pub IsChosen : List Place → Option ℕ → Type 0
 IsChosen places chosen = IsChosenAfter (position is_free places) places chosen
 
--- A new HTTP connection gets a slot and the deadline `until`. If the slot had an idle connection,
--- the caller must close that connection. Without a slot for the new connection, nothing changes.
+-- States that a new HTTP connection gets a slot and the deadline `until`. If the slot had an idle
+-- connection, the caller must close that connection. Without a slot for the new connection, nothing
+-- changes.
 abbrev pub Admits : (until : ℕ) → (old new : List Place) → Option Admission → Type 0
 Admits until old new None = IsChosen old None × (new ≡ old)
 Admits until old new (Some one) =

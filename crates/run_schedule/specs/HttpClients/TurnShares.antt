@@ -2,7 +2,8 @@
 use Rattle.std.specs.Prelude.{◌≡◌, ℕ, ◌+◌, ◌-◌, ◌%◌, ◌<◌, ◌==◌, ◌||◌, Bool, false, List, [], ◌∷◌, length, sum_by}
 use Rattle.run_schedule.specs.declared.http_clients.turn_share.TurnShare.{TurnShare}
 
--- The limits of one iteration of the main loop: 64 requests, 256 KiB and 20 ms of responses.
+-- The limits of one iteration of the main loop: 64 requests, 256 KiB of responses, and 20 ms to
+-- make the responses.
 abbrev pub whole : TurnShare
 whole = record { requests = 64; bytes = 262144; milliseconds = 20 }
 
@@ -19,8 +20,8 @@ after share bytes milliseconds = record {
   milliseconds = share.milliseconds - milliseconds;
 }
 
--- What remains of the limits of an iteration after some responses, the latest first. Each response
--- is a pair of its bytes and the milliseconds to make it.
+-- What remains of the limits of an iteration of the main loop after some responses, the latest
+-- first. Each response is a pair of its bytes and the milliseconds to make it.
 abbrev pub left_after : List (ℕ × ℕ) → TurnShare
 left_after [] = whole
 left_after (one ∷ earlier) = after (left_after earlier) one.0 one.1
@@ -31,15 +32,15 @@ abbrev pub MayReply : List (ℕ × ℕ) → Type 0
 MayReply [] = Unit {0}
 MayReply (one ∷ earlier) = (is_over (left_after earlier) ≡ false) × MayReply earlier
 
--- States that the list has at most 64 responses. All responses except the last have less than 256
--- KiB together, and took less than 20 ms together.
+-- States that the list has at most 64 responses. The responses before the latest take less than 256
+-- KiB in total, and took less than 20 ms in total to make.
 abbrev pub AreFew : List (ℕ × ℕ) → Type 0
 AreFew [] = Unit {0}
 AreFew (one ∷ earlier) =
     length earlier < 64 × sum_by (λ reply. reply.0) earlier < 262144
     × sum_by (λ reply. reply.1) earlier < 20
 
--- The slot of a client that is `step` slots after `first`. Slot 0 follows the last slot.
+-- The client slot that is `step` slots after slot `first`. Slot 0 follows the last slot.
 abbrev pub place_at : (first step : ℕ) → ℕ
 place_at first step = (first + step) % 64
 

@@ -1,5 +1,5 @@
--- Which of the store's files is the current one, in which the program records energy. The program
--- may begin a new file for each month or year, and each file name contains its period.
+-- Defines which of the store's files is the current file, in which the program records energy. The
+-- program may begin a new file for each month or year, and each file name contains its period.
 use Rattle.std.specs.Prelude.{◌≡◌, ℕ, ◌+◌, ◌-◌, ◌*◌, ◌≤◌, nat_lt, Bool, true, ◌||◌, if◌then◌else◌}
 use Rattle.std.specs.Prelude.{List, [], ◌∷◌, ◌++◌, Contains, Option, Some, None}
 use Rattle.std.specs.Borrow.{Bor}
@@ -8,7 +8,7 @@ use Rattle.energy_report.specs.declared.form.Period.{Period}
 use Rattle.energy_report.specs.declared.form.Period.TheVariants as period
 use Rattle.run_schedule.specs.Periods.Names.{file_of, spells}
 
--- The value of two ASCII digits.
+-- The value of two ASCII digits as a decimal number.
 abbrev pub pair : (tens ones : ℕ) → ℕ
 pair tens ones = 10 * (tens - 48) + (ones - 48)
 
@@ -27,7 +27,7 @@ abbrev pub day_in : List ℕ → ℕ
 day_in (a ∷ b ∷ c ∷ d ∷ hyphen ∷ m ∷ n ∷ second ∷ e ∷ f ∷ rest) = pair e f
 day_in _ = 0
 
--- A number by which periods of one length are ordered: a later period has a greater number.
+-- A number for a calendar period. Among periods of one length, a later period has a greater number.
 abbrev pub number_in : List ℕ → ℕ
 number_in text = 512 * year_in text + 32 * month_in text + day_in text
 
@@ -43,8 +43,8 @@ other_length period.Year = period.Month
 abbrev pub reports : Period → List ℕ → Bool
 reports length text = spells length text || spells (other_length length) text
 
--- The file name `name` is `file` with the period `text` inserted, such as `office-2026-11.db` for
--- `office.db`.
+-- States that the file name `name` is `file` with the period `text` inserted, such as
+-- `office-2026-11.db` for `office.db`.
 pub record IsFileOf (file : List ℕ) (length : Period) (name text : List ℕ) : Type 0 where
   pub reported : reports length text ≡ true
   pub named : file_of file text ≡ name
@@ -69,8 +69,8 @@ abbrev pub gives_way : {Z : Type 0} → Option (Vec ℕ Z) → Period → List �
 gives_way None length text = true
 gives_way (Some led) length text = nat_lt (rank length led.items) (rank length text)
 
--- States that the file of the period `text` is the current file: it is among the files with the
--- given names, and none of them has a greater rank.
+-- States that the file of the period `text` is the current file. It is among the files with the
+-- given names, and none of these files has a greater rank.
 pub record IsLast (file : List ℕ) (length : Period) (names : List (List ℕ))
     (text : List ℕ) : Type 0 where
   pub reported : reports length text ≡ true
@@ -86,8 +86,8 @@ IsLed file length names (Some text) = IsLast file length names text.items
 IsLed file length names None =
     (text : List ℕ) → reports length text ≡ true → ¬ Contains names (file_of file text)
 
--- Suppose `old` is the period of the current file among some file names. Then `new` is the period
--- of the current file among these names and `name`.
+-- Suppose that `old` is the period of the current file among some file names. Then `new` is the
+-- period of the current file among these names and `name`.
 abbrev pub SeesOneMore : {Z : Type 0} → (file : List ℕ) → Period → (name : List ℕ)
     → (old new : Option (Vec ℕ Z)) → Type 0
 SeesOneMore file length name old new = (names : List (List ℕ)) → IsLed file length names old

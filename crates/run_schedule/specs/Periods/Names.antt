@@ -1,4 +1,4 @@
--- The names of the store's files, one file for each calendar period.
+-- Defines the names of the store's files, one file for each calendar period.
 use Rattle.std.specs.Prelude.{◌≡◌, ℕ, nat_le, ◌-◌, ◌==◌, Bool, true, false, ◌&&◌, ◌||◌, if◌then◌else◌}
 use Rattle.std.specs.Prelude.{List, [], ◌∷◌, ◌++◌, codes, length, take, drop, Option, Some, None}
 use Rattle.std.specs.Borrow.{Bor}
@@ -56,14 +56,14 @@ spells period.Day (a ∷ b ∷ c ∷ d ∷ hyphen ∷ m ∷ n ∷ second ∷ e �
     is_year a b c d && (hyphen == 45) && is_month m n && (second == 45) && is_day e f
 spells period.Day _ = false
 
--- The file name `name` is `file` with the period `text` inserted, such as `office-2026-11.db` for
--- `office.db`. The period has this length.
+-- States that the file name `name` is `file` with the period `text` inserted, such as
+-- `office-2026-11.db` for `office.db`. The period has the length `period`.
 pub record IsNamed (file : List ℕ) (period : Period) (name text : List ℕ) : Type 0 where
   pub spelled : spells period text ≡ true
   pub named : file_of file text ≡ name
 
--- The period in the file name `name`, such as `2026-11` in `office-2026-11.db`, if it has this
--- length and the rest of `name` is `file`.
+-- The period in the file name `name`, such as `2026-11` in `office-2026-11.db`, if the period has
+-- this length and the rest of `name` is `file`.
 abbrev pub IsPeriodIn : (file : List ℕ) → Period → (name : List ℕ) → Option (Bor (List ℕ)) → Type 0
 IsPeriodIn file period name (Some text) = IsNamed file period name text.now
 IsPeriodIn file period name None = (text : List ℕ) → ¬ IsNamed file period name text

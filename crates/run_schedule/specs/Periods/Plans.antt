@@ -36,23 +36,25 @@ plan_of (Some led) current last_entry now =
     if bytes_eq led.now current then Stay
     else (if is_later led.now current then StayAhead else plan_of_past last_entry now)
 
--- If the program continues all meters in a new file, then the old file's period is not later than
--- the current period. No entry in the old file is then later than the clock.
+-- Theorem: if the program continues all meters in a new file, then the old file's period is not
+-- later than the current period. No entry in the old file is then later than the clock.
 abbrev pub NothingGoesBack : Type 0
 NothingGoesBack = (led : Bor (List ℕ)) (current : List ℕ) (last_entry now : ℕ)
     → plan_of (Some led) current last_entry now ≡ Carry
     → (number_in (as_far_as current led.now) ≤ number_in (as_far_as led.now current))
     × (last_entry ≤ now)
 
--- The time at which the program changes from the file of a period to a new file: the period's end,
--- plus up to 30 s for the last poll. None if the period has no end.
+-- The time at which the program changes from a period's file to a new file: the period's end plus a
+-- wait for the last poll. The wait is half of the polling interval `every`, at most 30 s. None if
+-- the period has no end.
 abbrev pub IsPeriodUntil : Zone → Period → Date → (every now : ℕ) → Option ℕ → Type 0
 IsPeriodUntil zone period day every now (Some until) =
     (next : ℕ) × IsPeriodEnd zone period day now (Some next) × (until ≡ next + min (every / 2) 30)
 IsPeriodUntil zone period day every now None = IsPeriodEnd zone period day now None
 
--- The time of the next attempt after the program failed to begin a new file: the next full hour,
--- plus up to 30 s for the poll at that time.
+-- The time of the next attempt after the program failed to begin a new file: the next full hour
+-- plus a wait for a poll. The wait is half of the polling interval `every`, at most 30 s. None if
+-- `now` is after `LAST_MOMENT`.
 abbrev pub next_try : (every now : ℕ) → Option ℕ
 next_try every now =
     if nat_lt LAST_MOMENT now then None

@@ -10,14 +10,14 @@ use Rattle.run_schedule.specs.declared.timing.timing.Timing.{Timing}
 abbrev pub pause_after : ℕ → ℕ
 pause_after before = pauses.pause_after before
 
--- `at` is the first multiple of the polling interval `every` after `now`.
+-- States that `at` is the first multiple of the polling interval `every` after `now`.
 pub record IsDue (every now at : ℕ) : Type 0 where
   pub later : now < at
   pub grid : (k : ℕ) × (at ≡ k * every)
   pub first : (k : ℕ) → now < k * every → at ≤ k * every
 
--- `at` is when to reconnect to a failed device: after the pause, but no later than at its next
--- poll.
+-- States that `at` is when to reconnect to a failed device: after the pause, but no later than at
+-- its next poll.
 pub record IsRetried (every now pause at : ℕ) : Type 0 where
   pub due : ℕ
   pub is_due : IsDue every now due
@@ -43,12 +43,13 @@ is_due now timing = due_in timing.phase timing.at now
 abbrev pub is_over : (now : ℕ) → Timing → Bool
 is_over now timing = over_in timing.phase timing.at now
 
--- The state of a device whose connection attempt begins. Its deadline is five seconds later.
+-- The state of a device whose connection attempt begins. The deadline of the attempt is five
+-- seconds later.
 abbrev pub begun : (now : ℕ) → Timing → Timing
 begun now timing =
     record { phase = Connecting; at = min (now + 5) (2 ^ 64 - 1); pause = timing.pause }
 
--- The state of a device whose polling round begins. Its deadline is `every` seconds later, at least
--- 60.
+-- The state of a device whose polling round begins. The deadline of the round is `every` seconds
+-- later, or 60 seconds later if `every` is less.
 abbrev pub stands : (every now : ℕ) → Timing
 stands every now = record { phase = Polling; at = min (now + max every 60) (2 ^ 64 - 1); pause = 0 }

@@ -6,8 +6,9 @@ ghost use Rattle.run_schedule.specs.HttpClients.Places.{IsChosen, IsOldest};
 
 use crate::http_clients::place::Place;
 
-// Returns the idle connection with the earlier deadline: `best` or the connection in slot `i`. The
-// result and `best` are pairs of a slot and its deadline.
+// Returns the idle connection with the earlier deadline: `best` or the connection in slot `i`. If
+// slot `i` has no idle connection, returns `best`. The result and `best` are pairs of a slot and
+// its deadline.
 fn older(best: Option<(usize, u64)>, i: usize, place: Place) -> Option<(usize, u64)>
     ensures { result ≡ specs.older best i place }
 {
@@ -25,7 +26,8 @@ fn older(best: Option<(usize, u64)>, i: usize, place: Place) -> Option<(usize, u
     }
 }
 
-// Returns the slot and the deadline of the idle HTTP connection with the earliest deadline.
+// Returns the slot and the deadline of the idle HTTP connection with the earliest deadline, or
+// `None` if no connection is idle.
 fn oldest_silent(places: &[Place]) -> Option<(usize, u64)>
     ensures { IsOldest places.now (option_map (λ best. best.0) result) }
 {

@@ -1,8 +1,8 @@
-//! The slots of all HTTP connections.
+//! The 64 slots of HTTP connections, and how a new connection gets a slot.
 use crate::http_clients::choice::choose_slot;
 use crate::http_clients::place::Place;
 
-/// The most HTTP connections that are open at the same time.
+/// The maximum number of HTTP connections that are open at the same time.
 pub const MOST_CLIENTS: usize = 64;
 
 /// The HTTP connection slot that a new connection got.

@@ -1,4 +1,4 @@
-//! Limits the memory in bytes of HTTP responses that clients have not yet read.
+//! Limits the memory for HTTP responses that clients have not yet read.
 ghost use Rattle.std.specs.Prelude.{◌≡◌};
 ghost use Rattle.run_schedule.specs.HttpClients.HeldReplies as specs;
 ghost use Rattle.run_schedule.specs.HttpClients.HeldReplies.{HoldsLittle};
@@ -16,7 +16,7 @@ pub fn may_reply(held: usize) -> bool
 }
 
 /// Theorem: if the server makes responses only while `may_reply` allows it, the unread responses
-/// have less than 4 MiB plus the longest response.
+/// take less than 4 MiB plus the size of the longest response.
 pub fn little_is_held()
     ensures { HoldsLittle }
 {}

@@ -7,7 +7,7 @@ use crate::http_clients::client_slots::MOST_CLIENTS;
 
 /// The limit in bytes for the responses of one iteration of the main loop. Further requests wait
 /// for the next iteration. The rows of a meter over two years are 1.8 MB and take 50 to 100 ms, so
-/// the limit amounts to some 10 ms. The response that exceeds the limit is still sent.
+/// the limit amounts to some 10 ms. A response that exceeds the limit is still sent.
 const MOST_BYTES: usize = 262_144;
 
 /// The limit in milliseconds for making the responses of one iteration of the main loop. A report
@@ -57,8 +57,8 @@ impl TurnShare {
 }
 
 /// Theorem: if each response begins before a limit is used up, an iteration has at most 64
-/// responses. All responses except the last have less than 256 KiB together, and took less than 20
-/// ms together.
+/// responses. The responses before the latest take less than 256 KiB in total, and took less than
+/// 20 ms in total to make.
 pub fn replies_are_few()
     ensures { (replies : List (ℕ × ℕ)) → MayReply replies → AreFew replies }
 {}
@@ -71,9 +71,9 @@ pub fn place_at(first: usize, step: usize) -> usize
     first.saturating_add(step) % MOST_CLIENTS
 }
 
-/// Theorem: each iteration of the main loop reaches every client slot. Suppose that the next
-/// iteration begins after a slot that precedes a waiting slot. Then the waiting slot is served
-/// earlier in the next iteration.
+/// Theorem: each iteration of the main loop reaches every client slot. Suppose that an iteration
+/// serves a slot before a waiting slot, and the next iteration begins directly after the served
+/// slot. Then the waiting slot's turn comes earlier in the next iteration.
 pub fn turns_go_round()
     ensures each { (first place : ℕ) → first < 64 → place < 64
         → shares.place_at first (shares.before place first) ≡ place }

@@ -14,7 +14,8 @@ const DAY: i64 = 86_400;
 /// The greatest UTC offset of a time zone in seconds, east or west: 25:59:59.
 const MOST_OFFSET: i64 = 93_599;
 
-/// The most seconds that the program waits after a period's end for the last poll of that period.
+/// The maximum number of seconds that the program waits after a period's end for the last poll of
+/// that period.
 const MOST_LAST_ROUND: u64 = 30;
 
 // Returns the earliest time at which the day after `last` begins in any time zone, in seconds since
@@ -67,7 +68,7 @@ fn first_past(zone: &Zone, last: Day, moment: u64) -> Option<u64>
 
 /// Returns the first time after `moment` at which the period that contains `day` is over in a time
 /// zone. A period is over when a day after its last day has begun. Returns `None` if the period
-/// does not end up to `LAST_MOMENT`.
+/// does not end by `LAST_MOMENT`.
 pub fn period_end(zone: &Zone, period: Period, day: Day, moment: u64) -> Option<u64>
     ensures { IsPeriodEnd zone.now period day moment result }
 {

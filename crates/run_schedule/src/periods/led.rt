@@ -37,8 +37,8 @@ fn numbers_in(text: &[u8]) -> (u32, u32, u32)
     }
 }
 
-/// Returns a number that orders calendar periods of one length: a later period has a greater
-/// number.
+/// Returns a number for a calendar period. Among periods of one length, a later period has a
+/// greater number.
 pub(crate) fn number_in(text: &[u8]) -> u32
     ensures { result ≡ numbers.number_in text.now }
 {
@@ -92,7 +92,7 @@ impl ActivePeriod {
     ghost use Rattle.std.specs.Prelude.{◌≡◌, [], OnOk, OnErr, None};
     ghost use Rattle.run_schedule.specs.Periods.Led.{SeesOneMore};
 
-    /// Makes the search result before any file name was seen, which has no period.
+    /// Makes the search result that is valid before any file name was seen: no period.
     pub fn none() -> ActivePeriod
         ensures { result.text ≡ None }
     {
@@ -110,8 +110,8 @@ impl ActivePeriod {
         }
     }
 
-    /// Considers the name of another file in the folder of the store, and keeps it if it is more
-    /// current than the one kept so far.
+    /// Considers the name of another file in the folder of the store. Keeps the period in the name
+    /// if the file is more current than the files seen so far.
     ///
     /// A file of a later year is more current. Within a year, a file of the configured period
     /// length is more current than a file of another length. Of two files with the same year and

@@ -1,4 +1,4 @@
-//! The names of the store's files, one file for each calendar period.
+//! Builds and parses the names of the store's files, one file for each calendar period.
 ghost use Rattle.std.specs.Prelude.{◌≡◌, ◌≢◌, ◌++◌, ℕ, List, codes, IfOk};
 ghost use Rattle.std.specs.Option.{MatchOption};
 ghost use Rattle.run_schedule.specs.Periods.Names as named;
@@ -105,7 +105,7 @@ fn before<'a>(text: &'a [u8], end: &[u8]) -> Option<&'a [u8]>
     text.strip_suffix(end)
 }
 
-// Returns the part of `name` between `stem` with a hyphen and the extension `suffix`.
+// Returns the part of `name` after `stem` and a hyphen, and before the extension `suffix`.
 fn between<'a>(name: &'a [u8], stem: &[u8], suffix: &[u8]) -> Option<&'a [u8]>
     ensures { MatchOption result
         ((text : List ℕ) → stem.now ++ codes "-" ++ text ++ suffix.now ≢ name.now)
@@ -120,8 +120,9 @@ fn between<'a>(name: &'a [u8], stem: &[u8], suffix: &[u8]) -> Option<&'a [u8]>
     }
 }
 
-/// Returns the period in a file name, if it has this length and the rest of the name is `file`. For
-/// example, `office-2026-11.db` contains the month `2026-11` for the file `office.db`.
+/// Returns the period in a file name, if the period has the length `period` and the rest of the
+/// name is `file`. For example, `office-2026-11.db` contains the month `2026-11` for the file
+/// `office.db`.
 pub fn period_of_file<'a>(file: &[u8], period: Period, name: &'a [u8]) -> Option<&'a [u8]>
     ensures { IsPeriodIn file.now period name.now result }
 {

@@ -73,15 +73,17 @@ pub fn plan_of(led: Option<&[u8]>, current: &[u8], last_entry: u64, now: u64) ->
     }
 }
 
-/// Theorem: no file is continued in a file of an earlier period, or while its last entry is later
-/// than the clock.
+/// Theorem: the program continues all meters in a new file only if two conditions hold. The old
+/// file's period is not later than the current period, and its last entry is not later than the
+/// clock.
 pub fn nothing_goes_back()
     ensures { NothingGoesBack }
 {}
 
 /// Returns the time at which the program changes from the file of the period that contains `day` to
-/// a new file. This is the period's end in the time zone, plus up to 30 s for the last poll.
-/// `every` is the polling interval in seconds. Returns `None` if the period has no end.
+/// a new file. This is the period's end in the time zone plus a wait for the last poll. The wait is
+/// half of the polling interval `every` (in seconds), at most 30 s. Returns `None` if the period
+/// has no end.
 pub fn period_until(zone: &Zone, period: Period, day: Day, every: u64, now: u64) -> Option<u64>
     ensures { IsPeriodUntil zone.now period day every now result }
 {
@@ -91,9 +93,9 @@ pub fn period_until(zone: &Zone, period: Period, day: Day, every: u64, now: u64)
     }
 }
 
-/// Returns when to retry after the program failed to begin a new file: at the next full hour, plus
-/// up to 30 s for the poll at that time. `every` is the polling interval in seconds. Returns `None`
-/// past `LAST_MOMENT`.
+/// Returns when to retry after the program failed to begin a new file: at the next full hour plus a
+/// wait for that hour's poll. The wait is half of the polling interval `every` (in seconds), at
+/// most 30 s. Returns `None` if `now` is after `LAST_MOMENT`.
 pub fn next_try(every: u64, now: u64) -> Option<u64>
     ensures { result ≡ specs.next_try every now }
 {

@@ -1,13 +1,14 @@
 //! The time limits of operations, in seconds.
 ghost use Rattle.std.specs.Prelude.{◌≡◌, ◌-◌, ◌+◌, ◌^◌, min, max};
 
-/// The most seconds for connecting to a device.
+/// The maximum number of seconds for connecting to a device.
 pub const CONNECT_SECONDS: u64 = 5;
 
-/// The most seconds from accepting a client's connection to sending the last byte of the response.
+/// The maximum number of seconds from accepting a client's connection to sending the last byte of
+/// the response.
 pub const CLIENT_SECONDS: u64 = 10;
 
-/// The least time limit of a polling round, in seconds.
+/// The shortest time limit of a polling round, in seconds.
 pub const LEAST_ROUND: u64 = 60;
 
 /// The longest polling interval of a device, in seconds.
@@ -20,8 +21,8 @@ pub fn until(now: u64, seconds: u64) -> u64
     now.saturating_add(seconds)
 }
 
-/// Returns the deadline of a polling round that begins at `now`: `every` seconds later, at least
-/// 60.
+/// Returns the deadline of a polling round that begins at `now`: `every` seconds later, or 60
+/// seconds later if `every` is less.
 pub fn round_until(every: u64, now: u64) -> u64
     ensures { result ≡ min (now + max every 60) (2 ^ 64 - 1) }
 {

@@ -2,7 +2,7 @@
 ghost use Rattle.std.specs.Prelude.{◌≡◌, ◌≤◌, false};
 ghost use Rattle.run_schedule.specs.Timing.SteadyClocks.{ahead_by, read_by, clock_after};
 
-/// The most seconds that the clock may advance between two readings without a message.
+/// The maximum number of seconds that the clock may advance between two readings without a message.
 const MOST_AHEAD: u64 = 60;
 
 /// A timestamp that never goes back, and what to report about the clock that it comes from.
@@ -11,14 +11,15 @@ pub struct ClockReading {
     /// The timestamp of an event that arrives now: the clock's time or the latest timestamp,
     /// whichever is later.
     pub moment: u64,
-    /// The number of seconds by which the clock is before the latest timestamp. Given only at the
-    /// first reading after the clock was set back.
+    /// The number of seconds by which the clock is before the latest timestamp. `None` except at
+    /// the first reading after the clock was set back.
     pub set_back: Option<u64>,
     /// The previous timestamp, if the clock advanced by more than a minute since then.
     pub ahead_from: Option<u64>,
 }
 
-// Returns the latest timestamp, if the clock has jumped to more than a minute after it.
+// Returns the latest timestamp, if the clock has jumped to more than a minute after it, otherwise
+// `None`.
 fn ahead_from(latest: u64, now: u64) -> Option<u64>
     ensures { result ≡ ahead_by latest now }
 {

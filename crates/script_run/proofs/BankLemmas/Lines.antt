@@ -11,8 +11,8 @@ use Rattle.script_run.specs.Bank.Settings.{Setting, takes}
 use Rattle.script_run.specs.Bank.Texts.{SetUpBegins, SetsUp, taken_text}
 use Rattle.script_run.specs.Bank.Running.{LineRan, LineRuns, TextRuns}
 
--- Loop invariant: the output of all lines that set up a simulated device is the output so far,
--- followed by the output of the remaining lines. An interrupted run has the same property.
+-- Loop invariant: the output of all setup lines of a simulated device is the output so far,
+-- followed by the output of the remaining lines. The same holds if the run is interrupted.
 pub record SoFar (start : Setting) (all : List Line) (now : Setting) (lines : List Line) (printed : List ℕ) : Type 0 where
   pub prints : (rest : List ℕ) (ended : Result Setting ExitStatus) → SetsUp now lines rest ended → SetsUp start all (printed ++ rest) ended
   pub begins : (part : List ℕ) → SetUpBegins now lines part → SetUpBegins start all (printed ++ part)

@@ -1,4 +1,4 @@
--- Lemmas on the output of a run that a failed write or out of memory interrupts.
+-- Lemmas on the output of a run that was interrupted, because a write failed or memory ran out.
 use Rattle.std.proofs.Common.{inl, inr, ℕ, Bool, List, [], ◌++◌, Option, refl, sym, ◌∙◌, ap, append_assoc}
 use Rattle.std.specs.Prelude.{Result, Ok, Err, IsErr, true, false}
 use Rattle.std.specs.Io.KnownBytes.{Appends}
@@ -42,8 +42,8 @@ part_of_none o o' text nothing = ([], text, refl, nothing)
 pub none_yet : (o : Option (List ℕ)) (text : List ℕ) → GotPart text o o
 none_yet o text = part_of_none o o text (Appends-nil o)
 
--- If a call returns an error after a beginning of the output was written, then the caller can
--- return this error and satisfy its own contract.
+-- Suppose that a call returns an error after only a beginning of its output was written. If the
+-- caller returns this error, the caller satisfies its own contract.
 pub breaks : {X E : Type 0} (r : Result X E) (P : X → Stage → List ℕ → Stage → Type 0) (office office' : Office ListBooks)
     (o o' : Option (List ℕ)) → IsErr r
     → ((past : History) → Stands ledger_of past office → Begins (λ printed. (x : X) × (next : Stage) × P x (stage_of past office) printed next) o o')

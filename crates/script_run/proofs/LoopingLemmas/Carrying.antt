@@ -1,4 +1,4 @@
--- Lemmas on executing the lines of a script over simulated devices.
+-- Lemmas on executing the lines of a script with simulated devices.
 use Rattle.std.proofs.Common.{◌≡◌, ◌⊎◌, inl, inr, ℕ, Bool, true, false, List, [], Option, refl, sym, subst}
 use Rattle.std.specs.Prelude.{Result, Ok, Err, IsErr}
 use Rattle.std.specs.Io.KnownBytes.{Appends}
@@ -38,8 +38,8 @@ pub record ReportedOut (P : LoopStage → List ℕ → LoopStage → Type 0) (pa
   pub prints : P (stage_on past from) text (stage_on after to)
   pub stands : Stands ledger_of after to.office
 
--- If the text of a line is written completely, then the line was executed. If the write fails, then
--- the writer received a beginning of the text.
+-- If the complete output of a line was written, then the line was executed. If the write failed,
+-- then the writer received a beginning of this output.
 pub writing : (r : Result (Unit {0}) Error) (text : List ℕ) (office office' : Office ListBooks) (o o' : Option (List ℕ))
     (P : Stage → List ℕ → Stage → Type 0) → GotText r text o o'
     → ((past : History) → Stands ledger_of past office → Reported P past office office' text)
@@ -62,8 +62,8 @@ writing_out (Err error) text from to P got reported = λ past stands.
     let this = reported past stands in
     inr (text, (tt, stage_on this.after to, this.prints), got)
 
--- If a call executes a line of a plain script and leaves the simulator unchanged, then it also
--- executes this line in a script over simulated devices.
+-- Suppose that a line was executed as in a script without simulated devices, and left the simulator
+-- unchanged. Then it was also executed as in a script with simulated devices.
 pub out : (P : Stage → List ℕ → Stage → Type 0) (Q : LoopStage → List ℕ → LoopStage → Type 0) (past : History) (from to : LoopState)
     → Carried P past from.office to.office from.output to.output
     → ((printed : List ℕ) (after : History) → P (stage_of past from.office) printed (stage_of after to.office)

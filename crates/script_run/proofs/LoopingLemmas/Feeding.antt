@@ -1,4 +1,4 @@
--- Lemmas on events that a script over simulated devices passes to the program, which accepts or
+-- Lemmas on events that a script with simulated devices passes to the program, which accepts or
 -- refuses them.
 use Rattle.std.proofs.Common.{◌≡◌, ◌⊎◌, ◌≤◌, ◌+◌, ◌++◌, append-nil, inl, inr, ℕ, Bool, true, false, List, [], ◌∷◌, Option, refl, sym, ap, ◌∙◌, subst, arith, length}
 use Rattle.std.specs.Prelude.{Result, Ok, Err, codes, is_ok}
@@ -32,8 +32,8 @@ use Rattle.script_run.specs.declared.looping.answers.Came.{Came}
 appended_none : (o m o' : Option (List ℕ)) (text : List ℕ) → Appends o m text → Appends m o' [] → Appends o o' text
 appended_none o m o' text first second = subst (λ (t : List ℕ). Appends o o' t) (append-nil text) (Appends-trans o m o' text [] first second)
 
--- States that `IsReply` allows the program's reply to an event. Also states that the stored records
--- match the history after the event.
+-- States that `IsReply` allows the program's reply to an event, and that the stored records match
+-- the history after the event.
 pub record Replied (past : History) (at : ℕ) (e : Event) (reply : Result Answer Refusal) (office office' : Office ListBooks)
     : Type 0 where
   pub is : IsReply (stage_of past office) at e reply
@@ -92,8 +92,8 @@ was_printed past at e reply office office' text replied same = record {
   stands = replied.stands;
 }
 
--- Loop invariant: the program accepted everything that the first `takes` reads received from the
--- simulated devices.
+-- Loop invariant: the program accepted everything that arrived on a device's connection in the
+-- first `takes` reads.
 pub record FedSoFar (takes : ℕ) (device : Option (List ℕ)) (at : ℕ) (past : History) (office office' : Office ListBooks)
     (o o' : Option (List ℕ)) : Type 0 where
   pub brought : List Came
@@ -148,8 +148,8 @@ fed_ok takes device at past office office' o m o' most so ok = record {
   stands = so.stands;
 }
 
--- If only a part of the closing line `ok` was written, then the writer received a beginning of the
--- output for the simulator's responses.
+-- Suppose that only a part of the closing line `ok` was written. Then the writer received a
+-- beginning of the complete output for the simulator's responses.
 pub fed_part : (takes : ℕ) (device : Option (List ℕ)) (at : ℕ) (past : History) (office office' : Office ListBooks) (o m o' : Option (List ℕ))
     → takes ≤ most_takes → FedSoFar takes device at past office office' o m → GotPart (codes "ok\n") m o'
     → Begins (λ printed. (stays : Bool) × (next : Stage) × AnswersPrint device at (stage_of past office) printed next) o o'
@@ -167,7 +167,7 @@ fed_part takes device at past office office' o m o' most so got =
     inr (so.printed ++ codes "ok\n", (true, stage_of so.after office', prints), part_after o m o' so.printed (codes "ok\n") so.appended got)
 
 -- After all responses of the simulator were processed, the script prints `ok`. If this write fails,
--- the output is interrupted.
+-- the writer received only a beginning of the output.
 pub fed_end : (r : Result Bool Error) (takes : ℕ) (device : Option (List ℕ)) (at : ℕ) (office office' : Office ListBooks) (o m o' : Option (List ℕ))
     → takes ≤ most_takes → ((past : History) → Stands ledger_of past office → FedSoFar takes device at past office office' o m)
     → GotText r (codes "ok\n") m o'
@@ -177,8 +177,8 @@ fed_end (Ok stays) takes device at office office' o m o' most so got = λ past s
 fed_end (Err error) takes device at office office' o m o' most so got = λ past stands.
     fed_part takes device at past office office' o m o' most (so past stands) got
 
--- If a write fails while the output for one chunk of the simulator's response is printed, then all
--- output for the responses ends there.
+-- If a write fails in the output for one chunk of the simulator's responses, the writer received a
+-- beginning of the output for all responses.
 pub fed_broken : (takes : ℕ) (device : Option (List ℕ)) (at : ℕ) (past : History) (came : Came) (e : Event) (office mid : Office ListBooks)
     (o m o' : Option (List ℕ)) → takes + 1 ≤ most_takes → (so : FedSoFar takes device at past office mid o m) → e ≡ fed device came
     → Begins (λ printed. (ok : Bool) × (next : Stage) × FedPrints (stage_of so.after mid) at e ok printed next) m o'
@@ -243,7 +243,8 @@ fed_refused takes device at past came e accepted office mid office' o m o' most 
       stands = done.stands;
     }
 
--- States that a failed write interrupted the output of a line that starts Modbus reads.
+-- States that a failed write interrupted a line that starts Modbus reads, and that the writer
+-- received a beginning of the line's output, possibly nothing.
 abbrev pub StartBegins : (at : ℕ) → (device : Option (List ℕ)) → Event → History → Office ListBooks → Maps → Bool → (o o' : Option (List ℕ)) → Type 0
 StartBegins at device e past office maps connected o o' =
     Begins (λ printed. (done : Unit {0}) × (next : LoopStage)
@@ -261,8 +262,8 @@ answers_none device at now = record {
   text = refl;
 }
 
--- If only a part of the reply to a line that starts Modbus reads was written, then the output of
--- the line was interrupted.
+-- Suppose that only a part of the reply to a line that starts Modbus reads was written. Then the
+-- writer received a beginning of the line's output.
 pub start_begun : (at : ℕ) (device : Option (List ℕ)) (e : Event) (given : Answer) (past : History) (office mid : Office ListBooks) (maps : Maps)
     (connected : Bool) (o o' : Option (List ℕ)) → Replied past at e (Ok given) office mid → GotPart (reply_text past at e (Ok given)) o o'
     → StartBegins at device e past office maps connected o o'
@@ -278,8 +279,8 @@ start_begun at device e given past office mid maps connected o o' replied got =
     } in
     inr (text, (tt, next, prints), part_of_longer o o' (reply_text past at e (Ok given)) (codes "ok\n") got)
 
--- If the reply to a line that starts Modbus reads was written, but the output for the responses was
--- interrupted, then the line's output was interrupted.
+-- Suppose that the reply to a line that starts Modbus reads was written, but the output for the
+-- responses only in part. Then the writer received a beginning of the line's output.
 start_broken : (at : ℕ) (device : Option (List ℕ)) (e : Event) (given : Answer) (past : History) (office mid : Office ListBooks) (maps maps' : Maps)
     (connected : Bool) (o m o' : Option (List ℕ)) → Replied past at e (Ok given) office mid → Appends o m (reply_text past at e (Ok given))
     → Exchanged maps maps'
@@ -301,8 +302,8 @@ start_broken at device e given past office mid maps maps' connected o m o' repli
     } in
     inr (text, (tt, end, prints), part_after o m o' (reply_text past at e (Ok given)) printed appended got)
 
--- If the reply to a line that starts Modbus reads and the output for the responses were both
--- written, then the line was executed.
+-- Suppose that a line starts Modbus reads. If the reply to the line and the output for the
+-- responses were both written, then the line was executed.
 pub started : (at : ℕ) (device : Option (List ℕ)) (e : Event) (given : Answer) (office mid office' : Office ListBooks) (maps maps' : Maps)
     (connected : Bool) (o m o' : Option (List ℕ)) (r : Result (Unit {0}) Error)
     → ((past : History) → Stands ledger_of past office

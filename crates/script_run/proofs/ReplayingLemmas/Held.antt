@@ -1,5 +1,5 @@
--- Lemmas on the output of a script (a text of commands, events and queries) that passes through a
--- buffer to an inner writer.
+-- Lemmas on the output of a script (a text of commands, events and queries). The output is written
+-- to a buffer, which passes it on to an inner writer.
 use Rattle.std.proofs.Common.{◌≡◌, ℕ, Option, Some, None, List, [], ◌++◌, refl, sym, ap, ◌∙◌, append_assoc, append-nil}
 use Rattle.std.specs.Io.KnownBytes.{Appends, Keeps, append_known}
 use Rattle.command_io.specs.declared.status.ExitStatus.{ExitStatus}
@@ -17,8 +17,8 @@ given_out (Some x) (Some y) None buffered last text wrote kept none = absurd kep
 given_out (Some x) (Some y) (Some z) buffered last text wrote kept none =
     sym (append-nil z) ∙ sym (ap (λ (more : List ℕ). z ++ more) none) ∙ kept ∙ wrote
 
--- If a text was written through the buffer, then the inner writer received a beginning of the text,
--- because the buffer may still have the rest.
+-- If a text was written to the buffer, then the inner writer received a beginning of the text. The
+-- rest may still be in the buffer.
 pub buffered_part : (a b d : Option (List ℕ)) (buffered last text : List ℕ) → Appends a (append_known b buffered) text
     → Keeps (append_known b buffered) (append_known d last) → HoldsPart a d text
 buffered_part None b d buffered last text wrote kept = tt

@@ -64,8 +64,8 @@ pub right_or_fails : {T : Type 0} (takes_memory : Type 0) (before after : Failur
 right_or_fails takes_memory before after reply right none still (inl h) = inl h.0
 right_or_fails takes_memory before after reply right none still (inr h) = inr (fails_in_memory takes_memory before after reply none still h)
 
--- If the program replied to an event and the script printed the reply, then the line of the event
--- was executed.
+-- If the program replied to an event, and the reply was written to the output, then the event's
+-- script line was executed. If only a part was written, the line was interrupted.
 pub replied : (past : History) (at : ℕ) (e : Event) (office office' : Office ListBooks) (reply : Result Answer Refusal)
     (result : Result (Unit {0}) Error) (o o' : Option (List ℕ)) → IsAnswer past at e (failures_of ledger_of office) (failures_of ledger_of office') reply → Ends ledger_of office office' e reply
     → (is_stopped office ≡ false → SettlesNothing past at e → IsQuiet office office' reply)
@@ -102,8 +102,8 @@ carried_as P Q past office office' result o o' turn done = record {
   stands = done.stands;
 }
 
--- If a line only prints a text and changes no record, then the line is executed as the
--- specification requires.
+-- Suppose that a line's specification allows printing a certain text without a change of the state.
+-- If the line only prints this text, it is executed correctly.
 pub nothing_done : (P : Stage → List ℕ → Stage → Type 0) (past : History) (office : Office ListBooks) (printed : List ℕ)
     (result : Result (Unit {0}) Error) (o o' : Option (List ℕ)) → P (stage_of past office) printed (stage_of past office)
     → Stands ledger_of past office → GotText result printed o o' → IsCarriedOut P past office office result o o'

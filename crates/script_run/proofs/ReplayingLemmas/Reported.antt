@@ -1,5 +1,5 @@
--- Lemmas on queries in a script (a text of commands, events and queries): the replies to them, and
--- their output.
+-- Lemmas on queries in a script (a text of commands, events and queries): the program's replies to
+-- the queries, and the output for these replies.
 use Rattle.std.proofs.Common.{◌≡◌, ◌⊎◌, inl, inr, ℕ, ◌+◌, Bool, true, false, Option, List, [], ◌++◌, length, take, refl, sym, ap, ◌∙◌, arith}
 use Rattle.std.specs.List.{flat_map}
 use Rattle.std.specs.Prelude.{Result, Ok, Err, OnOk}
@@ -23,7 +23,7 @@ use Rattle.script_run.specs.Replaying.Stages.{Stage}
 use Rattle.script_run.proofs.ReplayingLemmas.Replies.{right_or_fails, same_stage}
 use Rattle.sun_points.specs.Writing.{GotText}
 
--- If a script line is only a query, then the state of the script's run does not change.
+-- A script line that is only a query does not change the state of the script's run.
 pub stays : {T : Type 0} (past : History) (office office' : Office ListBooks) (reply : Result T Refusal)
     → OnlyAsks ledger_of office office' reply → stage_of past office' ≡ stage_of past office
 stays past office office' reply asks = same_stage past _ _ _ _ asks.stays asks.zone

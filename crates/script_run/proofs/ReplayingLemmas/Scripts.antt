@@ -34,7 +34,7 @@ use Rattle.script_run.specs.Replaying.Scripts.{ReplayBegins, ReplayPrints, Scrip
 use Rattle.script_run.specs.Replaying.Stages.{Fails, Stage, beginning}
 
 -- Loop invariant: the output of all lines is the output so far, followed by the output of the
--- remaining lines. The same holds for a run that is interrupted.
+-- remaining lines. The same holds if the run is interrupted.
 pub record SoFar (zone : Zone) (all : List Line) (now : Stage) (lines : List Line) (printed : List ℕ) : Type 0 where
   pub prints : (rest : List ℕ) (status : ExitStatus) → ScriptPrints now lines rest status
       → ScriptPrints (beginning zone) all (printed ++ rest) status
@@ -72,8 +72,8 @@ pub broken_off : (zone : Zone) (all : List Line) (now : Stage) (lines left : Lis
 broken_off zone all now lines left first printed part at begins so_far =
     so_far.begins part (subst (λ (ls : List Line). ScriptBegins now ls part) (sym at) (inl begins))
 
--- States that the lines of a script before `lines` were executed, with their output and the state
--- after them.
+-- States that all lines of a script before `lines` were executed, that their output was written,
+-- and what the state is after them.
 pub record Ran (zone : Zone) (all lines : List Line) (office : Office ListBooks) (output output' : Option (List ℕ)) : Type 0 where
   pub printed : List ℕ
   pub past : History
@@ -130,8 +130,8 @@ refused_for_memory why old new before after goes not_opened = memory_alone why g
     fails_for (inl refused) = absurd (let e : None ≡ Some why = refused.0 in cc)
     fails_for (inr outside) = fails_in_memory {T = Unit {0}} (opening_refusal_of (facts_of []) 0 ≡ None) old.failures new.failures (Err why) before after outside
 
--- If a line returns an exit status, then it ends the run of the script, after the output of the
--- earlier lines.
+-- If a line returns an exit status, then the run of the script ends with this status. The output
+-- consists of the output of the earlier lines and that of this line.
 pub stopped_by : (zone : Zone) (text : List ℕ) (past : History) (line : Line) (office office' : Office ListBooks) (status : ExitStatus)
     (lines left : List Line) (printed : List ℕ) (o m o' : Option (List ℕ)) → Appends o m printed → lines ≡ line ∷ left
     → SoFar zone (speaking_lines text) (stage_of past office) lines printed → LineRuns past line office office' (Err status) m o'
@@ -148,8 +148,7 @@ stopped_by zone text past line office office' Failed lines left printed o m o' b
   inr (broken_off zone (speaking_lines text) (stage_of past office) lines left line printed runs.0 at runs.2 so_far),
 )
 
--- If a line was executed, or if memory ran out before the line had any output, then the
--- specification of a line is satisfied.
+-- If the call for a script line succeeded, then the line was executed with its complete output.
 pub line_ran : (past : History) (line : Line) (said : ScriptLine) (office office' : Office ListBooks) (done : Unit {0})
     (o o' : Option (List ℕ)) → IsLine (words_of line.text) said
     → MayCarryOut (λ now printed next. LinePrints now said printed next) past office office' (Ok done) o o'
@@ -174,16 +173,15 @@ line_broken past line said office office' error o o' is (inl done) = (
 )
 line_broken past line said office office' error o o' is (inr none) = ([], none.1, inl refl)
 
--- If only a part of the text `bad line N` was written, then the output is a beginning of the
--- malformed line's output.
+-- If only a part of the text `bad line N` was written for a malformed line, then the writer
+-- received a beginning of the line's output.
 pub bad_broken : (past : History) (line : Line) (office : Office ListBooks) (o o' : Option (List ℕ))
     → ((said : ScriptLine) → IsLine (words_of line.text) said → ⊥) → GotPart (bad_line line.number) o o'
     → (part : List ℕ) × Appends o o' part × LineBegins (stage_of past office) line part
 bad_broken past line office o o' none got =
     (got.0, got.3, inr (bad_line line.number, (got.1, got.2), inl (record { none = none; text = refl })))
 
--- If an output is the complete output of a script, then it also counts as a beginning of the
--- script's output.
+-- The complete output of a script counts as a beginning of the script's output.
 script_begun : (now : Stage) (lines : List Line) (printed : List ℕ) (status : ExitStatus) → ScriptPrints now lines printed status
     → ScriptBegins now lines printed
 script_begun now [] printed status prints = prints.0
@@ -214,8 +212,8 @@ nothing_written zone input o o' none = (
   record { long = λ long. (too_long, refl); text = λ short. inr (nothing_begins (beginning zone) (speaking_lines input)) },
 )
 
--- If an input is within the maximum length, then the output for the input is the output of its
--- lines.
+-- If an input is not longer than the limit, then the output of its lines is the output for the
+-- input.
 short_prints : (zone : Zone) (input printed : List ℕ) (status : ExitStatus) → length input ≤ most_bytes → TextPrints zone input printed status
     → ReplayPrints zone input printed status
 short_prints zone input printed status short prints =
@@ -245,8 +243,8 @@ long_reported zone input Refused o o' long reported =
 long_reported zone input Failed o o' long reported =
     (reported.0, reported.3, record { long = λ again. (reported.1, reported.2); text = λ short. absurd (omega (arith, short, long)) })
 
--- If the input of a run cannot be read, then the run prints `too long` or fails, as the
--- specification of a run allows.
+-- If the input of a run is too long, the run prints `too long`. If reading the input fails, the run
+-- fails. In both cases the specification of a run is satisfied.
 pub unread_ran : (zone : Zone) (input : List ℕ) (status : ExitStatus) (o o' : Option (List ℕ)) → EndsUnread input status o o'
     → InputRuns zone input status o o'
 unread_ran zone input status o o' (inl long) = long_reported zone input status o o' long.0 long.1

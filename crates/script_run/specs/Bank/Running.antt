@@ -40,8 +40,8 @@ pub record LineRan (now : Setting) (line : Line) (next : Setting)
   pub after : next ≡ after_line now said
   pub appended : Appends output output' (taken_text (takes now.maps said))
 
--- States the outcome of a line that should set up a simulated device. The line was executed, or it
--- ends the run because it is malformed or was interrupted.
+-- States the outcome of a line that should set up a simulated device. Either the line was executed,
+-- or the run ends because the line is malformed or was interrupted.
 abbrev pub LineRuns : Setting → Line → Result (Unit {0}) ExitStatus → Setting
     → (output output' : Option (List ℕ)) → Type 0
 LineRuns now line (Ok done) next output output' = LineRan now line next output output'
@@ -62,7 +62,7 @@ TextRuns now text (Err Refused) next output output' =
 TextRuns now text (Err Failed) next output output' =
     Writes (λ part. SetUpBegins now (speaking_lines text) part) output output'
 
--- States the result of executing a complete input. Before its first line, the simulated device has
+-- States the result of executing a complete input. Before the first line, the simulated device has
 -- no addresses and no injected faults.
 pub record InputRuns (input : List ℕ) (ended : Result Setting ExitStatus)
     (output output' : Option (List ℕ)) : Type 0 where
@@ -70,8 +70,8 @@ pub record InputRuns (input : List ℕ) (ended : Result Setting ExitStatus)
   pub unset : IsUnset begun
   pub writes : Writes (λ printed. InputSetsUp begun input printed ended) output output'
 
--- States that a failed write or out of memory interrupted the setup of a simulated device. The
--- writer then received only a beginning of the setup's output.
+-- States that the setup of a simulated device was interrupted, because a write failed or memory ran
+-- out. The writer then received only a beginning of the setup's output.
 pub record InputBreaks (input : List ℕ) (output output' : Option (List ℕ)) : Type 0 where
   pub begun : Setting
   pub unset : IsUnset begun

@@ -27,8 +27,8 @@ pub record IsUnset (now : Setting) : Type 0 where
   pub maps : AreUnset now.maps
   pub tricks : now.tricks ≡ []
 
--- The range of Modbus addresses that a line `area` describes, or `None` if the line's numbers are
--- out of range.
+-- The range of Modbus addresses that a setup line `area` describes, or `None` if the line's numbers
+-- are out of range.
 abbrev pub area_of : GivenArea → Option Area
 area_of given =
     if nat_le given.start 65535 && nat_le given.count 4294967295

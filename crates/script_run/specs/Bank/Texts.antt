@@ -19,12 +19,12 @@ abbrev pub taken_text : Bool → List ℕ
 taken_text true = []
 taken_text false = refused_line Limit
 
--- States that the words of a line spell no setup line of a simulated device.
+-- States that the words of a line form no setup line of a simulated device.
 pub record IsBad (bad : Line) : Type 0 where
   pub none : (said : BankLine) → IsBankLine (words_of bad.text) said → ⊥
 
--- States the output and the end of executing the setup lines of a simulated device in order. A line
--- that spells no setup line prints `bad line N`, and ends the run.
+-- Defines the output of executing the setup lines of a simulated device in order, and how the
+-- execution ends. A line that is no setup line prints `bad line N`, and ends the run.
 abbrev pub SetsUp : Setting → List Line → (printed : List ℕ) → (ended : Result Setting ExitStatus)
     → Type 0
 SetsUp now [] printed ended = (printed ≡ []) × (ended ≡ Ok now)
@@ -34,8 +34,8 @@ SetsUp now (first ∷ lines) printed ended =
     × ((rest : List ℕ) × (printed ≡ taken_text (takes now.maps said) ++ rest)
     × SetsUp (after_line now said) lines rest ended))
 
--- States that `part` may be the output when writing the output of one setup line is interrupted.
--- `part` is empty, or a beginning of the line's output.
+-- States that `part` is a possible output of an interrupted setup line: it is empty, or a beginning
+-- of the line's complete output.
 abbrev pub LineBegins : Setting → Line → (part : List ℕ) → Type 0
 LineBegins now first part =
     (part ≡ [])
@@ -43,7 +43,7 @@ LineBegins now first part =
     ⊎ ((said : BankLine) × IsBankLine (words_of first.text) said
     × BeginsText part (taken_text (takes now.maps said))))
 
--- States that `part` may be the output when setting up a simulated device is interrupted. `part`
+-- States that `part` is a possible output of an interrupted setup of a simulated device. It
 -- consists of the output of the first setup lines and a beginning of the next line's output.
 abbrev pub SetUpBegins : Setting → List Line → (part : List ℕ) → Type 0
 SetUpBegins now [] part = part ≡ []
@@ -60,7 +60,7 @@ pub record InputSetsUp (now : Setting) (input printed : List ℕ)
   pub long : most_bytes < length input → (printed ≡ too_long) × (ended ≡ Err Refused)
   pub lines : length input ≤ most_bytes → SetsUp now (speaking_lines input) printed ended
 
--- States that `part` may be the output when setting up a simulated device from an input is
+-- States that `part` is a possible output if the setup of a simulated device from an input is
 -- interrupted.
 pub record InputBegins (now : Setting) (input part : List ℕ) : Type 0 where
   pub long : most_bytes < length input → BeginsText part too_long

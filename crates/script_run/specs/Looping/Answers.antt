@@ -26,8 +26,8 @@ abbrev pub fed_text : History → (at : ℕ) → Event → Result Answer Refusal
 fed_text past at e (Ok given) = flat_map note_line (notes_after past at e (Ok given))
 fed_text past at e (Err why) = refused_line why
 
--- States that the program accepted or refused an event, and that the script printed its
--- notifications or the refusal.
+-- States that the program accepted an event and the script printed its notifications, or the
+-- program refused the event and the script printed the refusal.
 pub record FedPrints (now : Stage) (at : ℕ) (e : Event) (accepted : Bool) (printed : List ℕ)
     (next : Stage)
     : Type 0 where
@@ -46,8 +46,8 @@ FedAll device at now (latest ∷ earlier) printed next =
     (before here : List ℕ) × (mid : Stage) × FedAll device at now earlier before mid
     × FedPrints mid at (fed device latest) true here next × (printed ≡ before ++ here)
 
--- States how the output for a device's responses ends: with `ok`, or with the refusal of the next
--- event.
+-- States how the output for a device's responses ends: with `ok`, or with the refusal of the first
+-- event that the program refused.
 abbrev pub FedEnds : (device : Option (List ℕ)) → (at : ℕ) → Stage → (printed : List ℕ)
     → (next : Stage) → Type 0
 FedEnds device at now printed next =
@@ -59,8 +59,8 @@ FedEnds device at now printed next =
 abbrev pub most_takes : ℕ
 most_takes = MOST_TAKES
 
--- States that the program received everything that arrived on a device's connection, and that the
--- script printed the resulting notifications or refusal.
+-- States that everything that arrived on a device's connection was passed to the program, up to the
+-- first refusal. The script printed the notifications, and at the end `ok` or the refusal.
 pub record AnswersPrint (device : Option (List ℕ)) (at : ℕ) (now : Stage) (printed : List ℕ)
     (next : Stage)
     : Type 0 where

@@ -1,4 +1,4 @@
--- Defines the output of each line of a loop (a script over simulated devices), and the loop's state
+-- Defines the output of each line of a loop (a script with simulated devices), and the loop's state
 -- after the line.
 use Rattle.std.specs.Prelude.{◌≡◌, ◌⊎◌, ◌++◌, ℕ, Bool, true, false, List, Option, Some, None, Result, Ok, Err, codes}
 use Rattle.script_text.specs.Bank.Forms.{IsBankLine}
@@ -27,7 +27,7 @@ use Rattle.script_run.specs.Looping.Answers.{AnswersPrint}
 use Rattle.mb_device.specs.StandIn.Exchanges.{Exchanged}
 use Rattle.script_run.specs.Looping.Standings.{LoopStage}
 
--- States that a loop (a script over simulated devices) allows a setup line at this position. Lines
+-- States that a loop (a script with simulated devices) allows a setup line at this position. Lines
 -- that add addresses (`area`) or inject faults (`trick`) must precede the first line that connects
 -- a device.
 abbrev pub MayStand : (connected : Bool) → BankLine → Type 0
@@ -35,14 +35,14 @@ MayStand connected (bank.Area area) = connected ≡ false
 MayStand connected (bank.Set cell) = Unit {0}
 MayStand connected (bank.Trick frame trick) = connected ≡ false
 
--- States that a loop (a script over simulated devices) forbids a setup line at this position,
+-- States that a loop (a script with simulated devices) forbids a setup line at this position,
 -- because an earlier line has connected a device.
 abbrev pub MayNotStand : (connected : Bool) → BankLine → Type 0
 MayNotStand connected (bank.Area area) = connected ≡ true
 MayNotStand connected (bank.Set cell) = ⊥
 MayNotStand connected (bank.Trick frame trick) = connected ≡ true
 
--- The output of a setup line in a loop (a script over simulated devices). It is `ok` if the
+-- The output of a setup line in a loop (a script with simulated devices). It is `ok` if the
 -- register map accepts the line, otherwise a refusal.
 abbrev pub taken_text : Bool → List ℕ
 taken_text true = codes "ok\n"
@@ -55,7 +55,7 @@ maps_with maps (bank.Area area) = with_area maps area
 maps_with maps (bank.Set cell) = with_cell maps cell
 maps_with maps (bank.Trick frame trick) = maps
 
--- States that a setup line in a loop (a script over simulated devices) prints `ok` or a refusal. If
+-- States that a setup line in a loop (a script with simulated devices) prints `ok` or a refusal. If
 -- the register map accepts the line, the map changes.
 pub record BankPrints (said : BankLine) (now : LoopStage) (printed : List ℕ) (next : LoopStage)
     : Type 0 where
@@ -65,7 +65,7 @@ pub record BankPrints (said : BankLine) (now : LoopStage) (printed : List ℕ) (
   pub maps : next.maps ≡ maps_with now.maps said
   pub connected : next.connected ≡ now.connected
 
--- States that a line of a loop (a script over simulated devices) does not use the simulated
+-- States that a line of a loop (a script with simulated devices) does not use the simulated
 -- devices. Their register map and connections stay unchanged.
 pub record StandsBy (now next : LoopStage) : Type 0 where
   pub maps : next.maps ≡ now.maps
@@ -101,7 +101,7 @@ pub record PlainPrints (at : ℕ) (e : Event) (now : LoopStage) (printed : List 
   pub by : StandsBy now next
 
 -- States the output of a line that connects a simulated device. The line prints the reply of the
--- program, and `connected` is true afterwards.
+-- program, and afterwards the state says that a device was connected.
 pub record ConnectPrints (at : ℕ) (e : Event) (now : LoopStage) (printed : List ℕ)
     (next : LoopStage)
     : Type 0 where
@@ -151,14 +151,14 @@ ReadPrints at start now printed next =
     ⊎ ((IsSpan start.function start.address start.count → ⊥)
     × IsRefused now.script printed next.script × StandsBy now next)
 
--- States that a line has the same output as in a script without simulated devices, and leaves the
--- simulated devices unchanged.
+-- States that a line prints the same output as in a script without simulated devices, and leaves
+-- the simulated devices unchanged.
 pub record AlikePrints (said : ScriptLine) (now : LoopStage) (printed : List ℕ) (next : LoopStage)
     : Type 0 where
   pub prints : LinePrints now.script said printed next.script
   pub by : StandsBy now next
 
--- States the output of a script line in a loop (a script over simulated devices), by the kind of
+-- States the output of a script line in a loop (a script with simulated devices), by the kind of
 -- line.
 abbrev pub SaidPrints : ScriptLine → (now : LoopStage) → (printed : List ℕ) → (next : LoopStage)
     → Type 0
@@ -166,17 +166,17 @@ SaidPrints (line.Event at e) now printed next = HappensPrints at e now printed n
 SaidPrints (line.Start at start) now printed next = ReadPrints at start now printed next
 SaidPrints said now printed next = AlikePrints said now printed next
 
--- States that the script line has bytes that a device sent.
+-- States that the script line is an event that reports bytes which a device sent.
 abbrev pub SaysBytes : ScriptLine → Type 0
 SaysBytes (line.Event at e) = IsBytes e
 SaysBytes other = ⊥
 
--- States that the words spell no setup line of a simulated device.
+-- States that the words form no setup line of a simulated device.
 abbrev pub IsNoBankLine : List (List ℕ) → Type 0
 IsNoBankLine words = (said : BankLine) → IsBankLine words said → ⊥
 
--- States that the words spell a setup line of a simulated device or a line of a plain script, and
--- that this line was executed.
+-- States that the words form a setup line of a simulated device, or any other script line, and that
+-- this line was executed.
 abbrev pub WordsPrint : List (List ℕ) → (now : LoopStage) → (printed : List ℕ) → (next : LoopStage)
     → Type 0
 WordsPrint words now printed next =
@@ -184,8 +184,8 @@ WordsPrint words now printed next =
     ⊎ (IsNoBankLine words × (said : ScriptLine) × IsLine words said
     × SaidPrints said now printed next)
 
--- States that the words spell no line, or spell a line that a loop (a script over simulated
--- devices) forbids at this position.
+-- States that the words form no line, or form a line that a loop (a script with simulated devices)
+-- does not allow at this position.
 abbrev pub AreWrong : (connected : Bool) → List (List ℕ) → Type 0
 AreWrong connected words =
     ((said : BankLine) × IsBankLine words said × MayNotStand connected said)

@@ -12,14 +12,14 @@ use Rattle.script_run.specs.Replaying.TextRun.{stage_of}
 use Rattle.script_run.specs.Replaying.Stages.{Stage}
 use Rattle.sun_points.specs.Writing.{GotPart}
 
--- The modeled state of a loop (a script over simulated devices). It has the state of the script,
+-- The modeled state of a loop (a script with simulated devices). It has the state of the script,
 -- the simulator's register map, and whether a line has connected a device.
 pub record LoopStage : Type 0 where
   pub script : Stage
   pub maps : Maps
   pub connected : Bool
 
--- The state of a running loop (a script over simulated devices). It has the program, the
+-- The state of a running loop (a script with simulated devices). It has the program, the
 -- simulator's register map, and the bytes written so far.
 pub record LoopState : Type 0 where
   pub office : Office ListBooks
@@ -27,14 +27,14 @@ pub record LoopState : Type 0 where
   pub connected : Bool
   pub output : Option (List ℕ)
 
--- Builds the state of a running loop (a script over simulated devices) from the program, the
+-- Builds the state of a running loop (a script with simulated devices) from the program, the
 -- register map and the output.
 abbrev pub loop_state : Office ListBooks → Maps → (connected : Bool)
     → (output : Option (List ℕ)) → LoopState
 loop_state office maps connected output =
     record { office = office; maps = maps; connected = connected; output = output }
 
--- Builds the modeled state of a loop (a script over simulated devices) from the history of accepted
+-- Builds the modeled state of a loop (a script with simulated devices) from the history of accepted
 -- events and the running state.
 abbrev pub stage_on : History → LoopState → LoopStage
 stage_on past here =

@@ -1,4 +1,4 @@
--- Defines the contract for running a loop (a script over simulated devices), with the output and
+-- Defines the contract for running a loop (a script with simulated devices), with the output and
 -- the state afterwards.
 use Rattle.std.specs.Prelude.{◌≡◌, ℕ, Bool, true, false, List, [], Option, Result, Ok, Err}
 use Rattle.std.specs.Io.KnownBytes.{Appends}
@@ -17,7 +17,7 @@ use Rattle.script_run.specs.Looping.Standings.{Begins, CarriedOut, CarriesOut, L
 use Rattle.script_run.specs.Replaying.TextRun.{Writes}
 use Rattle.sun_points.specs.Writing.{GotPart}
 
--- States the outcome of a line in a loop (a script over simulated devices). The line was executed,
+-- States the outcome of a line in a loop (a script with simulated devices). The line was executed,
 -- was interrupted, or is malformed or forbidden.
 abbrev pub LineRuns : Result Bool Error → (Prints : LoopStage → List ℕ → LoopStage → Type 0)
     → (Wrong : Type 0)
@@ -31,13 +31,13 @@ LineRuns (Err error) Prints Wrong from to =
     from.output to.output
 
 -- States the outcome of a line with the given words. The line was executed or interrupted, or the
--- words spell no line that is allowed at this position.
+-- words form no line that is allowed at this position.
 abbrev pub WordsRun : Result Bool Error → (words : List (List ℕ)) → (from to : LoopState) → Type 0
 WordsRun result words from to =
     LineRuns result (WordsPrint words) (AreWrong from.connected words) from to
 
--- States the outcome of a line that starts Modbus reads. The program refused the start, or received
--- the simulator's responses.
+-- States the outcome of a line that starts Modbus reads. Either the program refused the start, or
+-- the simulator's responses were passed to the program.
 abbrev pub StartRuns : {X E : Type 0} → Result X E → (at : ℕ) → (device : Option (List ℕ)) → Event
     → (from to : LoopState) → Type 0
 StartRuns result at device e from to =
@@ -50,7 +50,7 @@ ReportsText text Fine output output' = ⊥
 ReportsText text Refused output output' = Appends output output' text
 ReportsText text Failed output output' = GotPart text output output'
 
--- States the outcome of running the lines of a loop (a script over simulated devices), from the
+-- States the outcome of running the lines of a loop (a script with simulated devices), from the
 -- given state on.
 abbrev pub LinesRun : ExitStatus → (text : List ℕ) → (from : LoopState)
     → (output' : Option (List ℕ)) → Type 0

@@ -17,8 +17,8 @@ use Rattle.script_run.specs.Replaying.Stages.{Stage, Fails, ReportsStop}
 use Rattle.script_text.specs.AnswerText.{meter_line, poll_line, refused_line}
 use Rattle.energy_report.specs.RowLines.{counted}
 
--- States the two possible replies to a query: the row that was found or "not found", or a failure
--- such as out of memory.
+-- States the possible replies to a query: the row that was found, the refusal "not found", or a
+-- failure such as out of memory.
 pub record IsAnswered {T : Type 0} (now : Stage) (found : Option T) (reply : Result T Refusal)
     : Type 0 where
   pub answer : (reply ≡ or_not_found found) ⊎ Fails reply
@@ -37,7 +37,7 @@ pub record RowPrints {T : Type 0} (now : Stage) (found : Option T) (row_line : T
   pub text : printed ≡ row_text row_line reply
   pub same : next ≡ now
 
--- States the output of the query `meter NAME`.
+-- States the output of the query `meter NAME`: the line of the meter, or a refusal.
 abbrev pub MeterPrints : (name : Option (List ℕ)) → Stage → (printed : List ℕ) → (next : Stage)
     → Type 0
 MeterPrints name now printed next =
@@ -66,8 +66,8 @@ pub record RowsPrint {T : Type 0} (now : Stage) (there : Option (Unit {0}))
   pub text : printed ≡ flat_map row_line rows ++ last_line (counted (length rows)) reply
   pub same : next ≡ now
 
--- States that the rows are quarter hours of a meter with their energy, in order from the first. If
--- the query succeeded, the rows are all quarter hours of the meter.
+-- States that the rows are the first quarter hours of a meter, in order, with their energy. If the
+-- query succeeded, they are all quarter hours of the meter.
 pub record AreIntervals (facts : List Fact) (meter : Option (List ℕ)) (rows : List Share)
     (reply : Result (Unit {0}) Refusal) : Type 0 where
   pub begun : (n : ℕ) × (rows ≡ take n (rows_in (intervals_of facts meter)))
@@ -80,8 +80,8 @@ IntervalsPrint now meter printed next =
     RowsPrint now (is_there (intervals_of (facts_of now.past) meter))
     (AreIntervals (facts_of now.past) meter) share_line printed next
 
--- States that the rows are all days of an accounting register (a named counter) in the script's
--- time zone. After a failed query there are no rows.
+-- States that, if the query succeeded, the rows are all days of an accounting register (a named
+-- counter) in the script's time zone. If it failed, there are no rows.
 pub record AreDaysReported (now : Stage) (register : Option (List ℕ)) (rows : List DayTotal)
     (reply : Result (Unit {0}) Refusal) : Type 0 where
   pub whole : OnOk reply (AreDaysNamed now.zone (facts_of now.past) register (map account_of rows))

@@ -22,8 +22,8 @@ use Rattle.script_run.specs.Replaying.Stages.{Stage, Fails, ReportsStop, after_r
 use Rattle.script_text.specs.AnswerText.{accepted_text, fault_line, refused_line}
 
 -- States the possible replies of the program to an event: the reply that `decision_of` defines, or
--- a failure. If no failure has stopped the core and the event ends no poll, then there is no
--- failure.
+-- a failure. If no earlier failure has stopped the program and the event ends no poll, then the
+-- reply is not a failure.
 pub record IsReply (now : Stage) (at : ℕ) (e : Event) (reply : Result Answer Refusal) : Type 0 where
   pub answer : (reply ≡ decision_of now.past at e) ⊎ Fails reply
   pub stops : ReportsStop now reply
@@ -78,7 +78,7 @@ faults_of text = list_faults (rows_read text)
 abbrev pub list_event : GivenList → Planned → Event
 list_event list planned = Command (PutList (record { device = list.device; list = planned }))
 
--- States that the text spells the given point list, and that the list has a read plan with the
+-- States that the text encodes the given point list, and that the list has a read plan with the
 -- fewest reads that cover all points.
 pub record IsListOf (text : List ℕ) (list : Planned) : Type 0 where
   pub points : SpellsList text list.points

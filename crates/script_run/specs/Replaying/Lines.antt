@@ -21,14 +21,14 @@ LinePrints now (line.Intervals name) printed next = IntervalsPrint now name prin
 LinePrints now (line.Days name) printed next = DaysPrint now name printed next
 LinePrints now (line.Poll number) printed next = PollPrints number now printed next
 
--- States that the words spell a script line, and that the line was executed.
+-- States that the words form a script line, and that the line was executed.
 pub record WordsPrint (now : Stage) (words : List (List ℕ)) (printed : List ℕ) (next : Stage)
     : Type 0 where
   pub said : ScriptLine
   pub is : IsLine words said
   pub prints : LinePrints now said printed next
 
--- States that a line prints `bad line N`, because its words spell no script line.
+-- States that a line prints `bad line N`, because its words form no script line.
 pub record BadPrints (bad : Line) (printed : List ℕ) : Type 0 where
   pub none : (said : ScriptLine) → IsLine (words_of bad.text) said → ⊥
   pub text : printed ≡ bad_line bad.number
@@ -37,8 +37,8 @@ pub record BadPrints (bad : Line) (printed : List ℕ) : Type 0 where
 abbrev pub BeginsText : (part text : List ℕ) → Type 0
 BeginsText part text = (rest : List ℕ) × (text ≡ part ++ rest)
 
--- States that `part` may be the output when writing the output of one line is interrupted. `part`
--- is empty, or a beginning of the line's output.
+-- States that `part` is a possible output of an interrupted script line: it is empty, or a
+-- beginning of the line's complete output.
 abbrev pub LineBegins : Stage → Line → (part : List ℕ) → Type 0
 LineBegins now first part =
     (part ≡ []) ⊎ ((printed : List ℕ) × BeginsText part printed

@@ -12,8 +12,8 @@ use Rattle.script_run.specs.Replaying.Lines.{BadPrints, BeginsText, LineBegins, 
 use Rattle.script_run.specs.Replaying.Stages.{Stage, beginning}
 use Rattle.script_text.specs.AnswerText.{refused_line}
 
--- States the output of the lines of a script, run in order from the state `now`. A line that spells
--- no script line ends the run.
+-- States the output of the lines of a script, run in order from the given state on. A line whose
+-- words form no script line ends the run.
 abbrev pub ScriptPrints : Stage → List Line → (printed : List ℕ) → ExitStatus → Type 0
 ScriptPrints now [] printed status = (printed ≡ []) × (status ≡ Fine)
 ScriptPrints now (first ∷ lines) printed status =
@@ -21,8 +21,8 @@ ScriptPrints now (first ∷ lines) printed status =
     ⊎ ((here rest : List ℕ) × (next : Stage) × WordsPrint now (words_of first.text) here next
     × ScriptPrints next lines rest status × (printed ≡ here ++ rest))
 
--- States that `part` may be the output when a run of script lines is interrupted. `part` consists
--- of the output of the first lines and a beginning of the next line's output.
+-- States that `part` is a possible output of an interrupted run of script lines. It consists of the
+-- output of the first lines and a beginning of the next line's output.
 abbrev pub ScriptBegins : Stage → List Line → (part : List ℕ) → Type 0
 ScriptBegins now [] part = part ≡ []
 ScriptBegins now (first ∷ lines) part =
@@ -30,20 +30,20 @@ ScriptBegins now (first ∷ lines) part =
     ⊎ ((here rest : List ℕ) × (next : Stage) × WordsPrint now (words_of first.text) here next
     × ScriptBegins next lines rest × (part ≡ here ++ rest))
 
--- The output of a script (a text of commands, events and queries) that could not start because
--- memory ran out.
+-- The output if a script (a text of commands, events and queries) cannot start because memory ran
+-- out.
 abbrev pub no_office : List ℕ
 no_office = refused_line refusal.Memory
 
 -- States the output of running a script (a text of commands, events and queries). It is the output
--- of the lines, or a refusal if memory ran out at the start.
+-- of its lines, or only a refusal if memory ran out before the first line.
 abbrev pub TextPrints : Zone → (text printed : List ℕ) → ExitStatus → Type 0
 TextPrints zone text printed status =
     ((printed ≡ no_office) × (status ≡ Refused))
     ⊎ ScriptPrints (beginning zone) (speaking_lines text) printed status
 
--- States that `part` may be the output when running a script (a text of commands, events and
--- queries) is interrupted.
+-- States that `part` is a possible output of an interrupted run of a script (a text of commands,
+-- events and queries).
 abbrev pub TextBegins : Zone → (text part : List ℕ) → Type 0
 TextBegins zone text part =
     BeginsText part no_office ⊎ ScriptBegins (beginning zone) (speaking_lines text) part
@@ -54,7 +54,7 @@ pub record ReplayPrints (zone : Zone) (input printed : List ℕ) (status : ExitS
   pub long : most_bytes < length input → (status ≡ Refused) × (printed ≡ too_long)
   pub text : length input ≤ most_bytes → TextPrints zone input printed status
 
--- States that `part` may be the output when running an input as a script is interrupted.
+-- States that `part` is a possible output of an interrupted run of an input as a script.
 pub record ReplayBegins (zone : Zone) (input part : List ℕ) : Type 0 where
   pub long : most_bytes < length input → BeginsText part too_long
   pub text : length input ≤ most_bytes → TextBegins zone input part

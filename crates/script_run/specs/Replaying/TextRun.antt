@@ -18,8 +18,8 @@ use Rattle.script_run.specs.Replaying.Stages.{Stage}
 use Rattle.script_text.specs.LineWords.Words.{words_of}
 use Rattle.sun_points.specs.Writing.{GotText}
 
--- The modeled state of a script's run, from the history of accepted events and the running program
--- (`Office`).
+-- Builds the modeled state of a script's run from the history of accepted events and the running
+-- program (`Office`).
 abbrev pub stage_of : History → Office ListBooks → Stage
 stage_of past office =
     record { past = past; stopped = is_stopped office; zone = (ledger_of (books_in office)).zone }
@@ -44,15 +44,15 @@ MayCarryOut Prints past office office' result output output' =
     IsCarriedOut Prints past office office' result output output'
     ⊎ (IsErr result × Appends output output' [])
 
--- States that a call executed its script line. This holds for every history of accepted events that
--- the stored records match.
+-- States that, if the stored records match a history of accepted events, the call executed its
+-- script line as `IsCarriedOut` requires for this history.
 abbrev pub CarriesOut : (Stage → List ℕ → Stage → Type 0) → (office office' : Office ListBooks)
     → Result (Unit {0}) Error → (output output' : Option (List ℕ)) → Type 0
 CarriesOut Prints office office' result output output' =
     (past : History) → Stands ledger_of past office
     → IsCarriedOut Prints past office office' result output output'
 
--- States that the words of a line spell a script line, and that the line was executed.
+-- States that the words of a line form a script line, and that the line was executed.
 pub record LineRan (past : History) (line : Line) (office office' : Office ListBooks)
     (output output' : Option (List ℕ)) : Type 0 where
   pub printed : List ℕ
@@ -62,8 +62,8 @@ pub record LineRan (past : History) (line : Line) (office office' : Office ListB
   pub appended : Appends output output' printed
   pub stands : Stands ledger_of after office'
 
--- States that a line was executed, or that the line ends the run because its words spell no script
--- line or because the line was interrupted.
+-- States that a line was executed or ends the run. A line ends the run if its words form no script
+-- line or if it was interrupted.
 abbrev pub LineRuns : History → Line → (office office' : Office ListBooks)
     → Result (Unit {0}) ExitStatus → (output output' : Option (List ℕ)) → Type 0
 LineRuns past line office office' (Ok done) output output' =
@@ -74,8 +74,8 @@ LineRuns past line office office' (Err Refused) output output' =
 LineRuns past line office office' (Err Failed) output output' =
     (part : List ℕ) × Appends output output' part × LineBegins (stage_of past office) line part
 
--- States that the writer received the complete output of a run. If the run failed, the writer
--- received a beginning of the output.
+-- States that the writer received the complete output of a run, or, if the run failed, a beginning
+-- of the output.
 abbrev pub Writes : (Prints : List ℕ → ExitStatus → Type 0) → (Begins : List ℕ → Type 0)
     → ExitStatus → (output output' : Option (List ℕ)) → Type 0
 Writes Prints Begins Fine output output' =
@@ -99,15 +99,15 @@ abbrev pub InputRuns : Zone → (input : List ℕ) → ExitStatus → (output ou
 InputRuns zone input status output output' =
     Writes (ReplayPrints zone input) (ReplayBegins zone input) status output output'
 
--- States that a writer received a beginning of a longer text. The longer text is the bytes that
--- were already in the writer's buffer, and then the given text.
+-- States that the writer now has a prefix of this text: the bytes that it had before, followed by
+-- the bytes of `text`.
 abbrev pub HoldsPart : (old new : Option (List ℕ)) → (text : List ℕ) → Type 0
 HoldsPart None new text = ⊤
 HoldsPart (Some buffered) None text = ⊥
 HoldsPart (Some buffered) (Some holds) text = (rest : List ℕ) × (buffered ++ text ≡ holds ++ rest)
 
--- States that the caller's writer received the complete output of a run. If the run failed, the
--- writer received a beginning of the output.
+-- States that the caller's writer received the complete output of a run, or, if the run failed, a
+-- beginning of the output.
 abbrev pub Replays : Zone → (input : List ℕ) → ExitStatus
     → (output output' : Option (List ℕ)) → Type 0
 Replays zone input Failed output output' =

@@ -26,12 +26,13 @@ impl Model for Setup {
 #[derive(Drop)]
 pub struct SetupParts {
     pub bank: Bank,
-    /// The faults to inject, each with the number of a frame. A fault is injected into the response
-    /// to that frame. If two faults have the same number, only the first is injected.
+    /// The faults to inject, each with the number of a request frame. A fault is injected into the
+    /// response to this frame. If several faults have the same number, only the first in the list
+    /// is injected.
     pub tricks: Vec<(u64, Trick)>,
 }
 
-// Returns the range of Modbus addresses that a line `area` describes, or `None` if the line's
+// Returns the range of Modbus addresses that a setup line `area` describes, or `None` if the line's
 // numbers are out of range.
 fn area_of(given: GivenArea) -> Option<Area>
     ensures { result ≡ setting.area_of given }

@@ -45,8 +45,7 @@ impl Came {
     }
 }
 
-// Reads once from the device's end of a connection to the simulator. Returns `None` after a
-// timeout.
+// Reads once from the program's end of a device's connection. Returns `None` after a timeout.
 fn next_came<L: Link>(alloc: Global, near: &mut L) -> Result<Option<Came>, AllocError> {
     let mut piece = [0; MAX_ADU];
     match near.take(&mut piece) {

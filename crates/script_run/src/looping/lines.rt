@@ -1,4 +1,4 @@
-//! Executes the lines of a loop, a script over simulated devices.
+//! Executes the lines of a loop, a script with simulated devices.
 ghost use Rattle.std.specs.Prelude.{◌≡◌, true, false};
 ghost use Rattle.script_run.specs.Bank.Settings as setting;
 ghost use Rattle.script_run.specs.Looping.Lines as form;
@@ -22,7 +22,7 @@ use script_text::{BankLine, GivenStart, LineFault, ScriptLine, write_refusal};
 use std::alloc::Global;
 use std::io::{self, ErrorKind, Write};
 
-/// The state of a running loop (a script over simulated devices): the program (`Office`), the
+/// The state of a running loop (a script with simulated devices): the program (`Office`), the
 /// simulator, and the connections between them.
 #[derive(Drop)]
 pub(crate) struct Run<'t, L: Link + Drop> {
@@ -33,7 +33,7 @@ pub(crate) struct Run<'t, L: Link + Drop> {
     pub(crate) connected: bool,
 }
 
-/// Executes a line of a loop (a script over simulated devices). Returns whether the line can be
+/// Executes a line of a loop (a script with simulated devices). Returns whether the line can be
 /// parsed and is allowed at this position.
 pub(crate) fn run_line<C: Connects, W: Write>(
     alloc: Global,
@@ -96,7 +96,7 @@ fn print_acceptance<W: Write>(taken: bool, output: &mut W) -> io::Result<()>
     }
 }
 
-// Executes a setup line in a loop (a script over simulated devices). Returns whether the line is
+// Executes a setup line in a loop (a script with simulated devices). Returns whether the line is
 // allowed at this position.
 fn run_bank_line<L: Link + Drop, W: Write>(
     run: &mut Run<'_, L>,
@@ -115,7 +115,7 @@ fn run_bank_line<L: Link + Drop, W: Write>(
     Ok(true)
 }
 
-// Executes a script line over simulated devices. Returns false for a line with bytes of a device,
+// Executes a script line with simulated devices. Returns false for a line with bytes of a device,
 // because only the simulated devices may send bytes.
 fn run_script_line<C: Connects, W: Write>(
     alloc: Global,
@@ -168,7 +168,7 @@ fn execute_as_script<L: Link + Drop, W: Write>(
     carry_out(alloc, &mut run.office, said, output)
 }
 
-// Executes an event of a script over simulated devices. Returns false for an event with bytes of a
+// Executes an event of a script with simulated devices. Returns false for an event with bytes of a
 // device, because only the simulated devices may send bytes.
 fn run_event<C: Connects, W: Write>(
     alloc: Global,
@@ -236,7 +236,7 @@ fn round_of(command: &Command) -> Option<Option<Name>>
     }
 }
 
-// Executes a command of a script over simulated devices. A command that starts a round of reads
+// Executes a command of a script with simulated devices. A command that starts a round of reads
 // also exchanges frames with the simulated device.
 fn run_command<L: Link + Drop, W: Write>(
     alloc: Global,

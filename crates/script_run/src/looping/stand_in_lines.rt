@@ -1,4 +1,4 @@
-//! Executes the lines of a loop (a script over simulated devices) that exchange data with the
+//! Executes the lines of a loop (a script with simulated devices) that exchange data with the
 //! simulator.
 ghost use Rattle.std.specs.Prelude.{Bool};
 ghost use Rattle.office_events.specs.declared.events.Event.TheVariants as event;

@@ -1,4 +1,4 @@
-//! Runs a script over simulated devices.
+//! Runs a script with simulated devices.
 ghost use Rattle.std.specs.Prelude.{IfSome};
 ghost use Rattle.script_run.specs.Bank.Settings as setting;
 ghost use Rattle.script_run.specs.Looping.TextRun.{InputRuns, LinesRun, ReportsText, TextRuns};
@@ -18,15 +18,16 @@ use script_text::{BankLine, LineFault, ScriptLine, write_bad_line, write_refusal
 use std::alloc::{AllocError, Global};
 use std::io::{Read, Write};
 
-/// Runs a script with a store in memory, whose devices are all one simulator in this process.
+/// Runs a script with a store in memory. All devices of the script are one simulator in this
+/// process.
 ///
 /// `loop_text` executes lines as [`replay`](crate::replay) does, with these differences:
 ///
 /// - Lines that set up the simulator may come between script lines. They print `ok`, or `refused
 ///   12` if the register map refuses them. `area` and `trick` must precede the first `connect`.
 /// - A line that connects a device also opens a connection to the simulator.
-/// - A line that starts reads sends their frames to the simulator, and feeds the responses at once.
-///   The notifications and `ok` follow the line `started`.
+/// - A line that starts reads sends their frames to the simulator, and passes the responses to the
+///   program at once. The notifications and `ok` follow the line `started`.
 /// - A line with the bytes of a device is a bad line.
 pub fn loop_text<R: Read, C: Connects, W: Write>(
     alloc: Global,
@@ -71,7 +72,7 @@ fn connects_device(alloc: Global, line: &[u8]) -> Result<bool, AllocError> {
     }
 }
 
-// Runs the lines of a loop (a script over simulated devices) over a new store in memory. Timestamps
+// Runs the lines of a loop (a script with simulated devices) over a new store in memory. Timestamps
 // begin at 0.
 fn run_text<C: Connects, W: Write>(
     alloc: Global,
@@ -91,7 +92,7 @@ fn run_text<C: Connects, W: Write>(
     run_opened(alloc, zone, text, bank, &tricks, connects, output)
 }
 
-// Runs the lines of a loop (a script over simulated devices) over a new store in memory. The given
+// Runs the lines of a loop (a script with simulated devices) over a new store in memory. The given
 // register map must be empty.
 fn run_opened<C: Connects, W: Write>(
     alloc: Global,

@@ -8,12 +8,12 @@ use office_events::Name;
 use std::alloc::{AllocError, Global};
 use std::io;
 
-/// The maximum number of reads from a connection after a line that starts Modbus reads. Also the
-/// maximum number of times that the simulator reads and answers requests.
+/// The maximum number of reads from a device's connection after a line that starts Modbus reads. It
+/// is also the maximum number of reads by the simulator for such a line.
 pub(crate) const MOST_TAKES: u32 = 100_000;
 
-/// The two ends of a connection between a device and the simulator. Each end reads the bytes that
-/// are written to the other end.
+/// The two ends of a connection: `near` is the program's end, and `far` the simulator's end. Each
+/// end reads the bytes that are written to the other end.
 #[derive(Drop)]
 pub struct Ends<L: Link + Drop> {
     pub near: L,
@@ -25,12 +25,13 @@ pub struct Ends<L: Link + Drop> {
 pub trait Connects {
     type End: Link + Drop;
 
-    /// Opens a connection between a device and the simulator, and returns its two ends.
+    /// Opens a connection between the program and the simulator, and returns its two ends.
     fn connect(&mut self) -> io::Result<Ends<Self::End>>;
 }
 
-/// The connection of a device to the simulator, with the faults that the simulator injects. If the
-/// far end is missing, the simulator has closed the connection.
+/// The connection of a device to the simulator, with the faults that the simulator injects. `far`
+/// is the simulator's end. It is `None` after a failed write, or after the simulator closed the
+/// connection.
 #[derive(Drop)]
 pub(crate) struct Wire<'t, L: Link + Drop> {
     device: Option<Name>,
@@ -77,8 +78,8 @@ fn answer<L: Link>(server: &mut Server<'_>, far: &mut L, count: u64, bank: &mut 
 }
 
 impl<'t, L: Link + Drop> Wire<'t, L> {
-    // Sends request frames to the simulator, and lets it answer `count` frames. If sending fails,
-    // closes the connection.
+    // Sends request frames to the simulator, and lets it answer `count` frames. If sending fails or
+    // the simulator closes the connection, drops the simulator's end.
     fn send(&mut self, frames: &[u8], count: u64, bank: &mut Bank)
         ensures { Exchanged bank.old bank.new }
     {
@@ -135,7 +136,7 @@ impl<'t, L: Link + Drop> Wires<'t, L> {
         self.all.iter().position(|wire| wire.device == *device)
     }
 
-    /// Returns the near end of the connection with the given index.
+    /// Returns the program's end of the connection with the given index.
     pub(crate) fn near(&mut self, place: usize) -> &mut L
         requires { place < length self.old.all.items }
     {

@@ -23,8 +23,8 @@ nothing_spelled : (words : List (List ℕ)) (none : Unit {0}) → end_of_words w
 nothing_spelled [] none h = tt
 nothing_spelled (word ∷ words) none h = cc h
 
--- If the parser returns a setup line of a simulated device, then the words spell the fields of this
--- setup line. Each of the next lemmas proves one kind of line.
+-- The next lemmas prove for each kind of setup line of a simulated device: if the parser returns
+-- the line, then the words spell the line's fields.
 
 abbrev numbers_form : ℕ × ℕ → List Field
 numbers_form two = Of Number two.0 ∷ Of Number two.1 ∷ []
@@ -50,8 +50,8 @@ three_spelled (word ∷ words) v h =
     let two = bound (two_said words) _ v k.2 in
     subst (λ (v : Kind × ℕ × ℕ). Spell (word ∷ words) (three_form v)) (same _ v two.2) (kind_is word k.0 k.1, two_form words two.0 two.1)
 
--- True if the words of a script line name the fault `t` that the simulated device injects. A fault
--- that cuts a response short must keep fewer bytes than a full frame has.
+-- True if the words of a setup line spell the injected fault `t`, and a fault that cuts a response
+-- keeps at most 259 bytes.
 abbrev IsTrick : List (List ℕ) → Trick → Type 0
 IsTrick words t = Spell words (trick_form t) × IsPart t
 
@@ -130,8 +130,8 @@ read_form (word ∷ words) said h =
           ]
     ]
 
--- If the words spell the fields of a setup line of a simulated device, then the parser returns this
--- setup line. Each of the next lemmas proves one kind of line.
+-- The next lemmas prove for each kind of setup line of a simulated device: if the words spell the
+-- line's fields, then the parser returns the line.
 
 kind_known : (k : Kind) → kind_of (kind_word k) ≡ Some k
 kind_known kind.Coil = refl

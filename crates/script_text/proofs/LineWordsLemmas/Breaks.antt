@@ -1,5 +1,5 @@
--- Lemmas on the words of a line. The first word is the text before the first space, and the text
--- after this space has the other words. If a line has no space, the line is its only word.
+-- Lemmas on splitting a line into words at spaces. The first word is the text before the first
+-- space, and the other words are in the text after it.
 use Rattle.std.proofs.Common.{◌≡◌, ◌+◌, ◌-◌, ◌<◌, ℕ, List, [], ◌∷◌, Some, None, length, take, drop, ◌==◌, arith}
 use Rattle.std.specs.Prelude.{position}
 use Rattle.std.specs.List.{position_or_len}

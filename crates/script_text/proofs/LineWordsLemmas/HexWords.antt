@@ -1,5 +1,5 @@
--- Lemmas on words of hexadecimal digits. The decoder accepts exactly the words that consist of
--- pairs of digits.
+-- Lemmas: the hexadecimal decoder accepts exactly the words that consist of pairs of hexadecimal
+-- digits.
 use Rattle.std.proofs.Common.{◌≡◌, ℕ, ◌≤◌, Option, ◌%◌, ◌&&◌, Bool, true, false, List, length, None, refl, sym, ◌∙◌, arith}
 use Rattle.std.specs.Prelude.{if◌then◌else◌, nat_le, IsSome, Result, Ok, Err}
 use Rattle.std.specs.List.{list_all}

@@ -38,7 +38,7 @@ three_said [] = None
 three_said (word ∷ words) =
     kind_of word >>= λ kind. two_said words >>= λ two. Some (kind, two.0, two.1)
 
--- The table of the faults that the simulated device can inject without an argument, by name.
+-- The table of the faults that the simulated device can inject and that take no argument, by name.
 abbrev pub tricks : List (List ℕ × Trick)
 tricks =
     (codes "drop", trick.Drop)
@@ -49,20 +49,20 @@ tricks =
     ∷ (codes "garble", trick.Garble)
     ∷ []
 
--- The fault with the given name that the simulated device can inject without an argument, or `None`
--- for other names.
+-- The fault with the given name that the simulated device can inject and that takes no argument.
+-- `None` for other names.
 abbrev pub plain_of : List ℕ → Option Trick
 plain_of word = meaning_in tricks word
 
--- The injected fault of a simulated device that cuts a response to its first K bytes. The given
--- words must spell a number K of at most 259.
+-- The injected fault that cuts a simulated device's response to its first K bytes. `None` unless
+-- the words are exactly one number K of at most 259.
 abbrev pub cut_said : List (List ℕ) → Option Trick
 cut_said words =
     first_value Number words >>= λ count. end_of_words count.1 >>= λ none. if nat_le count.0 259
     then Some (trick.Cut count.0) else None
 
--- The injected fault of a simulated device that the words of a line spell. The words are the
--- fault's name, or `cut` and a number of bytes.
+-- The injected fault of a simulated device that the words spell: the fault's name, or `cut` and a
+-- number of bytes. `None` for other words.
 abbrev pub trick_said : List (List ℕ) → Option Trick
 trick_said [] = None
 trick_said (word ∷ words) =

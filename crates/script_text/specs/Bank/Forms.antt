@@ -36,19 +36,20 @@ bank_form (line.Set cell) =
     ∷ []
 bank_form (line.Trick frame trick) = Word (codes "trick") ∷ Of Number frame ∷ trick_form trick
 
--- States that an injected fault that cuts a response keeps at most 259 bytes, fewer than the
--- longest Modbus TCP frame has. Other injected faults have no limit.
+-- States that if the injected fault cuts a response, it keeps at most 259 bytes, fewer than the
+-- longest Modbus TCP frame has. States nothing for other faults.
 abbrev pub IsPart : Trick → Type 0
 IsPart (trick.Cut count) = count ≤ 259
 IsPart trick = Unit {0}
 
--- States that a setup line of a simulated device can have the given injected fault. A cut response
--- keeps at most 259 bytes, and other faults have no limit.
+-- States that if the setup line of a simulated device injects the fault of a cut response, the
+-- response keeps at most 259 bytes. States nothing for other lines.
 abbrev pub CanBe : BankLine → Type 0
 CanBe (line.Trick frame trick) = IsPart trick
 CanBe line = Unit {0}
 
--- States that the words spell the given setup line of a simulated device.
+-- States that the words spell the given setup line of a simulated device. If the line injects a
+-- fault, the fault is within its limit.
 pub record IsBankLine (words : List (List ℕ)) (line : BankLine) : Type 0 where
   pub form : Spell words (bank_form line)
   pub can : CanBe line

@@ -1,4 +1,5 @@
--- The kinds of values that the words of a line spell, and the fields that a line consists of.
+-- The kinds of values that the words of a script line spell, and the fields that a script line
+-- consists of.
 use Rattle.std.specs.Prelude.{◌≡◌, ℕ, ℤ, List, [], ◌∷◌, Option, Some, None, option_map}
 use Rattle.energy_core.specs.declared.limits.TheConstants.{MAX_RANGE}
 use Rattle.office_events.specs.declared.commands.GivenScale.{GivenScale}
@@ -36,8 +37,8 @@ spelled Hex word = bytes_of word
 spelled Range word = number_of word
 spelled Moment word = option_map Some (number_of word)
 
--- The default for a word of the given kind that is missing at the end of a line. The default is no
--- bytes, the range of an `acc32` counter, or no timestamp. The result is `None` if the word is
+-- The value that is used if a word of the given kind is missing at the end of a script line: no
+-- bytes, the range of an `acc32` counter, or no timestamp. `None` if words of this kind are
 -- required.
 abbrev pub missing : (kind : Kind) → Option (Value kind)
 missing AnyName = None
@@ -59,8 +60,8 @@ abbrev pub Spells : List ℕ → Field → Type 0
 Spells word (Word text) = word ≡ text
 Spells word (Of kind value) = spelled kind word ≡ Some value
 
--- States that the word of a field may be missing at the end of a script line, because the field's
--- value is the default for its kind.
+-- States that the word of a field may be missing at the end of a script line: the field's value is
+-- the default for its kind.
 abbrev pub IsMissing : Field → Type 0
 IsMissing (Word text) = ⊥
 IsMissing (Of kind value) = missing kind ≡ Some value
@@ -81,7 +82,7 @@ None >>= goes_on = None
 Some x >>= goes_on = goes_on x
 
 -- The value of the first remaining word of a script line, and the words after this word. If no word
--- is left, the value is the kind's default, if it has one.
+-- is left, the value is the kind's default. `None` if the kind has no default.
 abbrev pub first_value : (kind : Kind) → List (List ℕ) → Option (Value kind × List (List ℕ))
 first_value kind [] = option_map (λ value. (value, [])) (missing kind)
 first_value kind (word ∷ words) = option_map (λ value. (value, words)) (spelled kind word)

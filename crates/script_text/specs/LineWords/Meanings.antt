@@ -13,7 +13,8 @@ meaning_in (entry ∷ table) word =
 abbrev pub entry_of : {T : Type 0} → Bor (List ℕ) × T → List ℕ × T
 entry_of entry = (entry.0.now, entry.1)
 
--- The meaning of a word in a table whose entries have borrowed words.
+-- The meaning of a word in the first entry with this word, for a table whose entries have borrowed
+-- words. `None` if no entry has the word.
 abbrev pub found_in : {T : Type 0} → List (Bor (List ℕ) × T) → List ℕ → Option T
 found_in table word =
     option_map (λ entry. entry.1) (find (λ entry. bytes_eq entry.0.now word) table)

@@ -13,7 +13,8 @@ use Rattle.hex.specs.Hex.{decode_of, is_hex_digit}
 abbrev pub not_past : ℕ → Option ℕ
 not_past number = if nat_le number 9223372036854775807 then Some number else None
 
--- The number that one to nineteen digits spell, if it is at most 2^63 - 1.
+-- The number that a word of one to nineteen digits spells, if the number is at most 2^63 - 1.
+-- Otherwise `None`.
 abbrev pub number_of : List ℕ → Option ℕ
 number_of word = option_and_then not_past (number_of_digits 19 word)
 
@@ -21,7 +22,8 @@ number_of word = option_and_then not_past (number_of_digits 19 word)
 abbrev pub is_paired : List ℕ → Bool
 is_paired word = length word % 2 == 0 && list_all is_hex_digit word
 
--- The bytes that pairs of hexadecimal digits spell, if there are 1 to 65,536 bytes.
+-- The bytes that a word of pairs of hexadecimal digits spells, if there are 1 to 65,536 bytes.
+-- Otherwise `None`.
 abbrev pub bytes_of : List ℕ → Option (List ℕ)
 bytes_of word =
     if nat_le 1 (length word) && nat_le (length word) 131072 then result_ok (decode_of word)

@@ -3,7 +3,7 @@ use Rattle.std.specs.Prelude.{◌≡◌, ℕ, ◌==◌, List, [], ◌∷◌, Mat
 use Rattle.std.specs.Borrow.{Bor}
 use Rattle.std.specs.List.{slice_split}
 
--- The words of a line. A single space separates two words, so words may be empty.
+-- The words of a script line. A single space separates two words, so words may be empty.
 abbrev pub words_of : List ℕ → List (List ℕ)
 words_of line = slice_split (λ byte. byte == 32) line
 
@@ -13,7 +13,7 @@ words_left None = []
 words_left (Some line) = words_of line
 
 -- States that a call removed the first remaining word of a line and returned this word. If no word
--- is left, the call returns none and changes nothing.
+-- was left, the call returned `None` and changed nothing.
 abbrev pub TakesFirst : (words : List (List ℕ)) → (taken : Option (Bor (List ℕ)))
     → (rest : List (List ℕ)) → Type 0
 TakesFirst words taken rest =

@@ -1,5 +1,5 @@
-//! The types of the lines that set up a simulated device. The numbers are at most 2^63 - 1, and may
-//! be out of the range of Modbus.
+//! The types of the lines that set up a simulated device. The numbers in these lines are at most
+//! 2^63 - 1, and may be outside the ranges that Modbus allows.
 use mb_device::{Kind, Trick};
 
 /// A range in the address map of a simulated Modbus device: `count` addresses of one kind, from

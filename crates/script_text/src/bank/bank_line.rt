@@ -17,7 +17,7 @@ const KINDS: &[(&str, Kind)] = &[
     ("input", Kind::Input),
 ];
 
-// The faults that the simulated device can inject and that have no argument, by name.
+// The faults that the simulated device can inject and that take no argument, by name.
 const TRICKS: &[(&str, Trick)] = &[
     ("drop", Trick::Drop),
     ("twice", Trick::Twice),

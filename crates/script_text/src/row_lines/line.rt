@@ -65,7 +65,7 @@ impl<const N: usize> Text<N> {
         self.push(buffer.format(number).as_bytes());
     }
 
-    /// Appends a number right-aligned in `width` columns, at most 24.
+    /// Appends a number, right-aligned in `width` columns. `width` must be at most 24.
     pub fn push_right<I: Integer>(&mut self, width: usize, number: I)
         requires narrow { width ≤ 24 }
         requires room { length self.old + width + I.MAX_STR_LEN ≤ N }

@@ -22,8 +22,8 @@ pub fn interval_line(row: Share) -> Line
     line
 }
 
-/// Returns the line `DAY COUNT MWH`: the day as `YYYY-MM-DD`, the number of its quarter hours in 3
-/// columns, and its energy in mWh in 24 columns. Both numbers are right-aligned.
+/// Returns the line `DAY COUNT MWH`: the day as `YYYY-MM-DD`, the number of its recorded quarter
+/// hours in 3 columns, and its energy in mWh in 24 columns. Both numbers are right-aligned.
 pub fn day_line(total: &DayTotal) -> Line
     ensures { result ≡ rows.day_line total.now }
 {

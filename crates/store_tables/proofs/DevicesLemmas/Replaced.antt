@@ -14,8 +14,7 @@ use Rattle.store_tables.specs.Devices.Rows.{Listed, listed_at, point_columns, is
 use Rattle.store_tables.specs.Devices.Trees.{points}
 
 module _ (device : List ℕ) where
-  -- True if the new table `points` has the rows of the old table and those of the inserted points
-  -- `ps`.
+  -- True if the new table `points` has the rows of the old table and those of the inserted points.
   abbrev pub Came : List Point → Content → Content → Type 0
   Came ps = Edits points point_columns (with_points device ps)
 

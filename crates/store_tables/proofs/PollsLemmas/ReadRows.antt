@@ -173,7 +173,8 @@ sound_outcome row (Ok a) is =
       code = code_bound number.value code.value outcome.value (whole_bounds 0 255 (column row 3) code.value code.is).1 outcome.is;
     })
 
--- Lemmas: a row of `replies` is read as the stored request, and compared with the new request.
+-- Lemmas: the reader of a row of `replies` compares the stored request correctly with the new
+-- request.
 
 kind_back : (k : CommandKind) → kind_in (Text (kind_word k)) ≡ Some k
 kind_back kind.Device = refl

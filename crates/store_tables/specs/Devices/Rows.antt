@@ -222,8 +222,8 @@ is_register name r = bytes_eq r.name name
 abbrev pub is_register_of : (device : List ℕ) → Registered → Bool
 is_register_of device r = bytes_eq r.device device
 
--- True if every number of an accounting register (a named counter) is in its range. One Modbus read
--- must cover the counter and its scale.
+-- True if every number of an accounting register (a named counter) is in its range, and one Modbus
+-- read covers the counter and its scale.
 pub record IsSoundRegister (r : RegisterRow) : Type 0 where
   pub place : IsPlace r.place
   pub address : r.address ≤ LAST_COUNTER

@@ -14,7 +14,7 @@ entry_moment e = e.entry.moment
 abbrev pub entry_moment_shown : Entered → Row
 entry_moment_shown e = Int (pos e.entry.moment) ∷ []
 
--- True if a query returned the timestamp of the entry `e`.
+-- True if a query returned the timestamp of this entry.
 abbrev pub HasEntryMoment : Entered → ℕ → Type 0
 HasEntryMoment e moment = moment ≡ e.entry.moment
 
@@ -27,8 +27,7 @@ void_moment v = v.moment
 abbrev pub void_moment_shown : Voided → Row
 void_moment_shown v = Int (pos v.moment) ∷ []
 
--- True if a query returned the time at which an entry was cancelled. The row `v` of `voids` has
--- this time.
+-- True if a query returned the time in this row of `voids`, at which an entry was cancelled.
 abbrev pub HasVoidMoment : Voided → ℕ → Type 0
 HasVoidMoment v moment = moment ≡ v.moment
 

@@ -13,7 +13,7 @@ use Rattle.store_tables.specs.declared.entries.rows.EntryKind.{EntryKind}
 use Rattle.store_tables.specs.declared.entries.rows.EntryKind.TheVariants.{Opening, Reading, Manual, Closing, Reset, Rescale}
 use Rattle.store_tables.specs.Limits.{greatest_place, latest_moment, IsPlace}
 
--- The number that the column `kind` stores for each kind of entry.
+-- The number that the column `kind` of `entries` stores for each kind of entry.
 abbrev pub kind_number : EntryKind → ℕ
 kind_number Opening = 1
 kind_number Reading = 2
@@ -116,7 +116,7 @@ entry_place e = e.entry.place
 
 -- Definitions of the rows of `voids`, which cancel entries of meters.
 
--- A void: a record that cancels the entry of a meter at index `place`.
+-- A void: a row of `voids` that cancels one entry of a meter, with the time of the cancellation.
 pub record Voided : Type 0 where
   pub meter : List ℕ
   pub place : ℕ

@@ -1,5 +1,5 @@
--- Rows of `installations` (meters) and `ranges` (values of their counters), their columns, and the
--- ranges of their values.
+-- Rows of `installations` (meters) and `ranges` (how many values their counters have), their
+-- columns, and the bounds of their values.
 use Rattle.std.specs.Prelude.{◌≡◌, ℕ, pos, ◌≤◌, List, [], ◌∷◌, IsTrue, Bool, bytes_eq, ◌==◌, Option, Some, None, if◌then◌else◌, Result, Ok, true, false, IsUtf8, string_bytes}
 use Rattle.std.specs.Option.{option_and_then}
 use Rattle.energy_core.specs.declared.limits.TheConstants.{MAX_CEILING, MAX_RANGE, MAX_SHOWN, MAX_TOTAL, MIN_RANGE}
@@ -22,7 +22,7 @@ greatest_ceiling = MAX_CEILING
 abbrev pub greatest_total : ℕ
 greatest_total = MAX_TOTAL
 
--- The number in the column `ended`: 1 if the meter was closed, otherwise 0.
+-- The number in the column `ended` of `installations`: 1 if the meter was closed, otherwise 0.
 abbrev pub ended_number : Bool → ℕ
 ended_number false = 0
 ended_number true = 1
@@ -132,7 +132,7 @@ installation_in row =
 abbrev pub installed_place_shown : Installed → Row
 installed_place_shown i = Int (pos i.row.place) ∷ []
 
--- True if a query returned the index of the row of `installations`.
+-- True if a query returned the index of this row of `installations`.
 abbrev pub HasInstalledPlace : Installed → ℕ → Type 0
 HasInstalledPlace i place = place ≡ i.row.place
 
@@ -156,7 +156,7 @@ range_shown r = Int (pos r.range) ∷ []
 abbrev pub is_range_of : (meter : List ℕ) → Ranged → Bool
 is_range_of meter r = bytes_eq r.meter meter
 
--- True if the store accepts a counter with `range` values: from `MIN_RANGE` to `MAX_RANGE`.
+-- True if the store accepts a counter with this number of values.
 abbrev pub IsRange : ℕ → Type 0
 IsRange range = (MIN_RANGE ≤ range) × (range ≤ MAX_RANGE)
 

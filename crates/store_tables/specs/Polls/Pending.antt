@@ -18,8 +18,8 @@ use Rattle.store_tables.specs.Polls.Trees.{polls, outcomes}
 abbrev pub is_pending : List OutcomeRow → Started → Bool
 is_pending ended p = not (list_any (is_outcome_of p.row.number) ended)
 
--- True if an Ok answer has the rows of the polls without an outcome, ordered by poll number. Every
--- error has a cause in `IsStoreError`.
+-- True if an Ok answer has the rows of the polls without an outcome, ordered by poll number. Any
+-- error has a permitted cause, such as out of memory.
 abbrev pub ShowsPending : {S A : Type 0} → Ghosts S → (old new : Held S)
     → (result : Result A Error) → (rows : A → List Row) → Type 0
 ShowsPending g old new result rows =

@@ -83,7 +83,7 @@ pub record IsStarted (p : Started) (a : Poll) : Type 0 where
   pub device : string_bytes a.device ≡ p.device
   pub row : a.row ≡ p.row
 
--- True if the number that a query returned is the number of the poll `p`.
+-- True if the number that a query returned is the number of this poll.
 abbrev pub HasNumber : Started → ℕ → Type 0
 HasNumber p number = number ≡ p.row.number
 
@@ -337,7 +337,7 @@ start_of p = p.row.started
 abbrev pub start_shown : Started → Row
 start_shown p = Int (pos p.row.started) ∷ []
 
--- True if the time that a query returned is the time at which the poll `p` started.
+-- True if the time that a query returned is the time at which this poll started.
 abbrev pub HasStart : Started → ℕ → Type 0
 HasStart p moment = moment ≡ p.row.started
 
@@ -350,7 +350,7 @@ outcome_moment o = o.moment
 abbrev pub outcome_moment_shown : OutcomeRow → Row
 outcome_moment_shown o = Int (pos o.moment) ∷ []
 
--- True if the time that a query returned is the time at which the outcome `o` ended its poll.
+-- True if the time that a query returned is the time at which this outcome ended its poll.
 abbrev pub HasOutcomeMoment : OutcomeRow → ℕ → Type 0
 HasOutcomeMoment o moment = moment ≡ o.moment
 
@@ -363,7 +363,7 @@ hold_moment h = h.row.moment
 abbrev pub hold_moment_shown : Held → Row
 hold_moment_shown h = Int (pos h.row.moment) ∷ []
 
--- True if the time that a query returned is the timestamp of the rejected reading `h`.
+-- True if the time that a query returned is the timestamp of this rejected reading.
 abbrev pub HasHoldMoment : Held → ℕ → Type 0
 HasHoldMoment h moment = moment ≡ h.row.moment
 
@@ -376,6 +376,6 @@ reply_moment k = k.moment
 abbrev pub reply_moment_shown : Kept → Row
 reply_moment_shown k = Int (pos k.moment) ∷ []
 
--- True if the time that a query returned is the time of the response to the stored request `k`.
+-- True if the time that a query returned is the time of the response to this stored request.
 abbrev pub HasReplyMoment : Kept → ℕ → Type 0
 HasReplyMoment k moment = moment ≡ k.moment

@@ -36,7 +36,7 @@ pub fn insert_device<S: Alter>(
     )
 }
 
-/// Queries the devices in the order in which they were added. `read_device` reads each row.
+/// Queries the devices in the order in which they were added. Use `read_device` to decode each row.
 pub fn device_rows<S: Alter>(conn: &mut Connection<S>) -> Result<Vec<Row>, Error>
     ensures asks { Asks S.Store conn.old conn.new }
     ensures shows { ReportsRows S.Store conn.old conn.new devices device_columns result

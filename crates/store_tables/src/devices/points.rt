@@ -94,7 +94,7 @@ pub fn replace_points<S: Alter>(
     insert_points(tx, device, points)
 }
 
-/// Queries the points of a device's point list in order. `read_point` reads each row.
+/// Queries the points of a device's point list in order. Use `read_point` to decode each row.
 pub fn point_rows<S: Alter>(conn: &mut Connection<S>, device: &str) -> Result<Vec<Row>, Error>
     ensures asks { Asks S.Store conn.old conn.new }
     ensures shows { ReportsRows S.Store conn.old conn.new trees.points point_columns result

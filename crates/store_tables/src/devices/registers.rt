@@ -102,7 +102,7 @@ pub fn register_of<S: Alter>(
 }
 
 /// Queries the accounting registers (named counters) of a device in the order in which they were
-/// added. `read_register` reads each row.
+/// added. Use `read_register` to decode each row.
 pub fn register_rows<S: Alter>(conn: &mut Connection<S>, device: &str) -> Result<Vec<Row>, Error>
     ensures asks { Asks S.Store conn.old conn.new }
     ensures shows { ReportsRows S.Store conn.old conn.new registers register_columns result

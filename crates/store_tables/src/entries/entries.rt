@@ -102,7 +102,8 @@ pub fn entry_at<S: Alter>(
     }
 }
 
-/// Queries the entries of a meter in ascending order of their indices. `read_entry` reads each row.
+/// Queries the entries of a meter in ascending order of their indices. Use `read_entry` to decode
+/// each row.
 pub fn entry_rows<S: Alter>(conn: &mut Connection<S>, meter: &str) -> Result<Vec<Row>, Error>
     ensures asks { Asks S.Store conn.old conn.new }
     ensures shows { ReportsRows S.Store conn.old conn.new entries entry_columns result

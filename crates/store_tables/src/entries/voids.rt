@@ -37,8 +37,8 @@ pub fn insert_void<S: Alter>(
     )
 }
 
-/// Queries the indices of a meter's cancelled entries in ascending order. `read_void` reads each
-/// row.
+/// Queries the indices of a meter's cancelled entries in ascending order. Use `read_void` to decode
+/// each row.
 pub fn void_rows<S: Alter>(conn: &mut Connection<S>, meter: &str) -> Result<Vec<Row>, Error>
     ensures asks { Asks S.Store conn.old conn.new }
     ensures shows { ReportsRows S.Store conn.old conn.new voids voided_columns result

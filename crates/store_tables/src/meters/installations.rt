@@ -178,8 +178,8 @@ pub fn last_installation<S: Alter>(conn: &mut Connection<S>) -> Result<Option<u6
     first_whole(&rows, 1, GREATEST_PLACE)
 }
 
-/// Queries a meter's row of `installations` inside a transaction. `read_installation` reads the
-/// row.
+/// Queries a meter's row of `installations` inside a transaction. Use `read_installation` to decode
+/// the row.
 pub fn installation_rows<S: Alter>(
     tx: &mut Transaction<'_, S>,
     meter: &str,

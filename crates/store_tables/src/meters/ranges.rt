@@ -55,8 +55,8 @@ pub fn range_of<S: Alter>(conn: &mut Connection<S>, meter: &str) -> Result<Optio
     first_whole(&rows, MIN_RANGE, MAX_RANGE)
 }
 
-/// Queries the number of values of a meter's counter inside a transaction. `read_range` reads the
-/// row.
+/// Queries the number of values of a meter's counter inside a transaction. Use `read_range` to
+/// decode the row.
 pub fn range_rows<S: Alter>(tx: &mut Transaction<'_, S>, meter: &str) -> Result<Vec<Row>, Error>
     ensures same_reference { IsSameBorrow tx.old.conn tx.new.conn }
     ensures asks { AsksInside S.Store tx.old.conn.now tx.new.conn.now result }

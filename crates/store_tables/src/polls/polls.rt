@@ -73,7 +73,7 @@ pub fn poll_at<S: Alter>(conn: &mut Connection<S>, number: u64) -> Result<Option
     }
 }
 
-/// Queries the greatest number of a poll.
+/// Queries the greatest poll number.
 fn last_rows<S: Alter>(conn: &mut Connection<S>) -> Result<Vec<Row>, Error>
     ensures asks { Asks S.Store conn.old conn.new }
     ensures shows { ReportsRows S.Store conn.old conn.new polls poll_columns result
@@ -82,7 +82,7 @@ fn last_rows<S: Alter>(conn: &mut Connection<S>) -> Result<Vec<Row>, Error>
     conn.query_all("SELECT poll FROM polls ORDER BY poll DESC LIMIT 1", &[])
 }
 
-/// Returns the greatest number of a poll, or None if no poll is stored. Polls are numbered from 1
+/// Returns the greatest poll number, or None if no poll is stored. Polls are numbered from 1
 /// without gaps, so the greatest number is also the count of all polls.
 pub fn last_poll<S: Alter>(conn: &mut Connection<S>) -> Result<Option<u64>, RowFault>
     ensures finds { LooksUp S.Store conn.old conn.new polls poll_columns IsSoundStarted result
@@ -93,7 +93,8 @@ pub fn last_poll<S: Alter>(conn: &mut Connection<S>) -> Result<Option<u64>, RowF
     first_whole(&rows, 1, GREATEST_PLACE)
 }
 
-/// Queries the polls without an outcome, in order of their numbers. `read_poll` reads each row.
+/// Queries the polls without an outcome, in order of their numbers. Use `read_poll` to decode each
+/// row.
 pub fn pending_rows<S: Alter>(conn: &mut Connection<S>) -> Result<Vec<Row>, Error>
     ensures asks { Asks S.Store conn.old conn.new }
     ensures shows { ShowsPending S.Store conn.old conn.new result (λ answer. answer.items) }

@@ -1,4 +1,4 @@
-//! Tests crashes of the machine at each call of the write-ahead log and of the database file.
+//! Tests crashes of the machine at each call to the write-ahead log and to the database file.
 use crate::acts::{Act, act_in, empty_files};
 use crate::stops::asked::Asked;
 use crate::stops::files::{Stop, Stopping, files, restarted};
@@ -7,9 +7,9 @@ use sqlite_disk::{Fuse, Memory};
 use std::alloc::Global;
 use std::process::Abort;
 
-/// A task that is interrupted by crashes, with its number of steps. For each count in `after`, some
-/// crash must come when exactly this many steps have succeeded. The task makes more than `calls`
-/// calls of the write-ahead log.
+/// A task that is interrupted by crashes, with its number of steps. For each count in `after`, the
+/// test must have a crash at which exactly this many steps had succeeded. The task makes more than
+/// `calls` calls to the write-ahead log.
 struct Case {
     act: Act,
     steps: usize,
@@ -71,8 +71,8 @@ fn stopped(
     steps
 }
 
-/// Repeats a task with a crash at each call of a file, until the task makes no further call.
-/// Returns how many steps of the task succeeded before each crash.
+/// Repeats a task with a crash at each call to a file, until the task ends without a crash. Returns
+/// how many steps of the task succeeded before each crash.
 fn stop_each(
     rt: &impl Abort,
     alloc: Global,
@@ -97,8 +97,8 @@ fn stop_each(
     panic!(rt; "it stops each time")
 }
 
-/// Returns true if, for each count in `after`, some crash came when exactly this many steps of the
-/// task had succeeded.
+/// Returns true if, for each count in `after`, some crash occurred when exactly this many steps of
+/// the task had succeeded.
 fn each_came_up(after: &[usize], stops: &[usize]) -> bool {
     for steps in after {
         if !stops.contains(steps) {
@@ -108,8 +108,8 @@ fn each_came_up(after: &[usize], stops: &[usize]) -> bool {
     true
 }
 
-/// Repeats a task with a crash at each call of each file. The first series of crashes loses data
-/// that was not synced. The second series keeps this data in the file.
+/// Repeats a task with a crash at each call to each file. In the first series of crashes, data that
+/// was not synced is lost. In the second series, this data is in the file.
 fn stop_all(rt: &impl Abort, alloc: Global, case: &Case) {
     for is_lost in [true, false] {
         let of_log = stop_each(rt, alloc, case, Stopping::Log, is_lost);

@@ -1,19 +1,19 @@
-//! The two files of a database, in memory, for tests of crashes. From a chosen call of one file on,
-//! every call fails, as after a crash of the machine.
+//! The two files of a database, in memory, for tests of crashes. From a chosen call to one file on,
+//! every call to this file fails, as after a crash of the machine.
 use sqlite::{Connection, FileStore, Files, Options};
 use sqlite_disk::{Crash, Disk, Fuse, Memory};
 use std::alloc::Global;
 use std::process::Abort;
 
-/// The file (log or database) during one of whose calls the machine crashes.
+/// The file (log or database) whose call is interrupted by a crash of the machine.
 #[derive(Clone, Copy)]
 pub(crate) enum Stopping {
     Log,
     Database,
 }
 
-/// A crash of the machine after `calls` calls of one file. If `is_lost` is true, data that was not
-/// synced is then lost. Otherwise the data is in the file.
+/// A crash of the machine after `calls` calls to one file. If `is_lost` is true, the crash loses
+/// data that was not synced. Otherwise this data is in the file.
 #[derive(Clone, Copy)]
 pub(crate) struct Stop {
     pub(crate) file: Stopping,
@@ -21,7 +21,8 @@ pub(crate) struct Stop {
     pub(crate) is_lost: bool,
 }
 
-/// Returns a file with the given bytes. Every call of the file after the first `calls` calls fails.
+/// Returns a file with the given bytes. The first `calls` calls to the file succeed, and every
+/// later call fails.
 fn file(rt: &impl Abort, alloc: Global, bytes: &[u8], calls: u64) -> Fuse<Memory> {
     let mut file = Memory::new(alloc);
     file.write_at(0, bytes).expect(rt, "not written");
@@ -30,7 +31,7 @@ fn file(rt: &impl Abort, alloc: Global, bytes: &[u8], calls: u64) -> Fuse<Memory
 }
 
 /// Returns a write-ahead log and a database file with the given bytes. The machine crashes at the
-/// given call of one of the files.
+/// call to one of these files that `stop` specifies.
 pub(crate) fn files(
     rt: &impl Abort,
     alloc: Global,
@@ -63,7 +64,7 @@ pub(crate) fn connected(
 }
 
 /// Returns the files after a restart of the machine. If `is_lost` is true, data that was not synced
-/// is lost. Otherwise it is in the file as it was written.
+/// is lost. Otherwise this data is in the files as it was written.
 pub(crate) fn restarted(
     rt: &impl Abort,
     alloc: Global,

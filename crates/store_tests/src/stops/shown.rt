@@ -4,7 +4,7 @@ use sqlite::{Alter, Connection};
 use std::process::Abort;
 use store_tables::OpenFault;
 
-/// Returns the number of the fault with which a database could not be opened, or 0 if it was
+/// Returns the numeric code of the fault with which a database could not be opened, or 0 if it was
 /// opened.
 pub(crate) fn fault(answer: Result<Zone, OpenFault>) -> u8 {
     match answer {

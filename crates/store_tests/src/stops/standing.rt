@@ -10,9 +10,9 @@ use std::alloc::Global;
 use std::process::Abort;
 
 /// Queries, each with the number that the query returns in each state of the file, after a restart
-/// at time 5000. The states are: no tables, new tables, after each of the six events of the script,
-/// after the meter was replaced, and after its reading was cancelled. A restart records a poll
-/// without an outcome as lost.
+/// at time 5000. The states are: without tables, with new tables, after each of the six events of
+/// the script, after the meter was replaced, and after its reading was cancelled. The restart
+/// records a poll without an outcome as lost.
 static STATES: [(&str, &[i64]); 17] = [
     (
         "SELECT count(*) FROM meta WHERE id = 1 AND version = 3 AND zone = 'UTC0'",
@@ -130,8 +130,8 @@ fn is_in_state<S: Alter>(rt: &impl Abort, connection: &mut Connection<S>, state:
     true
 }
 
-/// Returns true if the store has the changes of all steps that succeeded, and possibly those of the
-/// step in progress. The last step is the request.
+/// Returns true if the store has the changes of the first `steps` steps, and possibly those of the
+/// next step, which was in progress. The last step is the request.
 fn may_be_recorded<S: Alter>(
     rt: &impl Abort,
     connection: &mut Connection<S>,
@@ -159,8 +159,8 @@ fn assert_recorded_once<S: Alter>(rt: &impl Abort, connection: &mut Connection<S
     }
 }
 
-/// Restarts the program at time 5000 over a store that survived a crash. If a request is given,
-/// sends it again and asserts that it is acknowledged. Returns the store.
+/// Restarts the program at time 5000 over a store that survived a crash. If a request is given, the
+/// function sends the request again and asserts that it is acknowledged. Returns the store.
 fn reopened<B: Books>(rt: &impl Abort, alloc: Global, books: B, again: Option<Asked>) -> B {
     let mut office = opened(rt, alloc, books, 5000);
     if let Some(asked) = again {
@@ -193,8 +193,8 @@ fn remade<S: Alter + Drop>(rt: &impl Abort, alloc: Global, mut connection: Conne
     connection.into_store()
 }
 
-/// Asserts that all steps that succeeded are recorded, and no other step except possibly the step
-/// in progress. If no step succeeded, the tables may be missing. Returns the store.
+/// Asserts that the first `steps` steps are recorded, and no other step except possibly the next
+/// step, which was in progress. If no step succeeded, the tables may be missing. Returns the store.
 pub(crate) fn assert_recovered<S: Alter + Drop>(
     rt: &impl Abort,
     alloc: Global,

@@ -5,8 +5,8 @@ use sqlite::{Alter, Connection};
 use std::process::Abort;
 use store_tables::{create, open};
 
-/// Creates a file of version 1 in an empty database. Returns 1, the count of its steps, and the
-/// store.
+/// Creates a file of version 1 in an empty database. Returns 1 (the task has one step, which
+/// succeeded) and the store.
 pub(crate) fn prepare<S: Alter + Drop>(rt: &impl Abort, mut conn: Connection<S>) -> (usize, S) {
     if create(&mut conn, "UTC0").is_err() {
         panic!(rt; "not made");
@@ -17,8 +17,8 @@ pub(crate) fn prepare<S: Alter + Drop>(rt: &impl Abort, mut conn: Connection<S>)
     (1, conn.into_store())
 }
 
-/// Opens a file of version 1, which upgrades it to version 3. Returns 1 if the opening succeeded or
-/// 0 if the store failed, and the store.
+/// Opens a file of version 1, which upgrades it to version 3. Returns the number of steps that
+/// succeeded (1, or 0 if the store failed), and the store.
 pub(crate) fn bring<S: Alter + Drop>(rt: &impl Abort, mut conn: Connection<S>) -> (usize, S) {
     let fault = fault(open(&mut conn));
     assert!(rt; fault == 0 || fault == 3, "{fault}");

@@ -38,8 +38,8 @@ goes_on of_old of_new old asked until before after (Ok meters) opened carried as
 }
 goes_on of_old of_new old asked until before after (Err why) opened carried asks passes = tt
 
--- If the contract of continuing the open meters in a new database is satisfied for an old store, it
--- is also satisfied for the old store's database file.
+-- A file rollover that continues the open meters of a store continues those of the database file
+-- from which the store was opened.
 pub goes_on_from : {S E : Type 0} (g : Ghosts S) (old : Held S) (facts : List Fact) (its zone : List ℕ) (until : Option ℕ) (new : Held S) (books : SqlBooks S g) (result : Result ℕ E)
     → (HasCleanDisk (state g books.connection) → HasCleanDisk (state g old)) → HoldsAlone g its books.connection facts
     → IfOk result (GoesOnIn g (ledger_beneath g) books zone until new) → IfOk result (GoesOnFrom g old facts zone until new)

@@ -53,7 +53,8 @@ meta_there First = inl refl
 meta_there Second = inl refl
 meta_there Third = inl refl
 
--- If the table `meta` is queried for its columns, then the query returns the only row of the table.
+-- If a query returns all rows of the table `meta`, and the table has one row, then the query
+-- returns exactly this row.
 one_row : (rows all : List Row) (m : Meta) → IsPermutation (map (reported true) rows) all → IsPermutation (meta_columns m ∷ []) all → rows ≡ meta_columns m ∷ []
 one_row rows all m is marked = sym (reported_same rows) ∙ one_permutation (meta_columns m) (map (reported true) rows) (IsPermutation-trans _ _ _ marked (IsPermutation-sym _ _ is))
 

@@ -16,8 +16,8 @@ use Rattle.stored_files.specs.declared.joins.stored.JoinFault.TheVariants as fau
 use Rattle.stored_files.specs.declared.joins.stored.JoinedOffice.{JoinedOffice}
 
 module _ {K : Type 0} (k : keepings.Ghosts K) (range : DayRange) (register : List ℕ) (facts : List Fact) where
-  -- The contract for adding a file to a merged report is the same for the first file and for later
-  -- files.
+  -- Adding a file to the data of a merged report satisfies its contract (`JoinsNext`), both for an
+  -- empty report and for a report on earlier files.
   pub next_joins : (zone : List ℕ) (before : Option (JoinedOffice K)) (kept : K) (new : JoinedOffice K)
       → AreBefore k zone range before kept → JoinsOne k range register facts kept new.kept → JoinsNext k zone range register facts before new
   next_joins zone None kept new are joins = (are.0, are.1, joins are.0 [] (are.2 register))
@@ -25,8 +25,8 @@ module _ {K : Type 0} (k : keepings.Ghosts K) (range : DayRange) (register : Lis
       joins its files (subst (λ (those : K). k.keeps its range register files those) (sym are) has)
 
   module _ {S : Type 0} (g : Ghosts S) where
-    -- If the data that a report needs from a store was added to a merged report, then the contract
-    -- for adding the store's database file is satisfied.
+    -- A merged report to which a store's data were added has the data of the database file from
+    -- which the store was opened.
     pub joins_file : (old : Held S) (its : List ℕ) (kept : K) (books : SqlBooks S g) (result : Result K JoinFault)
         → (HasCleanDisk (state g books.connection) → HasCleanDisk (state g old)) → HoldsAlone g its books.connection facts
         → IfOk result (JoinsBooks k (ledger_beneath g) books range register kept) → IfOk result (JoinsFile k g old range register facts kept)
@@ -51,8 +51,8 @@ module _ {K : Type 0} (k : keepings.Ghosts K) (range : DayRange) (register : Lis
       parts = it.parts facts (record { zone = its; holds = holds.holds });
     }
 
-    -- If a file has the time zone of the earlier files, then the contract for adding the file to
-    -- their merged report is satisfied.
+    -- Suppose that a file has the time zone of the earlier files, and its records were added to
+    -- their merged report. Then the contract for adding a file is satisfied.
     pub joins_in : (old : Held S) (zone : List ℕ) (before : Option (JoinedOffice K)) (kept : K) (new : JoinedOffice K)
         → AreBefore k zone range before kept → IsOfZone zone before → string_bytes new.zone ≡ zone
         → JoinsFile k g old range register facts kept new.kept → JoinsOffice k g old zone range register facts before new

@@ -1,4 +1,5 @@
--- Maps faults to the reasons why a database file can't be copied.
+-- Maps errors (of opening or merging a copied database file) to the reasons why the file can't be
+-- copied.
 use Rattle.sqlite.specs.declared.error.ErrorCode.TheVariants as code
 use Rattle.sqlite.specs.declared.error.Error.{Error}
 use Rattle.sqlite.specs.declared.error.Error.TheVariants.{SqliteFailure}

@@ -1,4 +1,5 @@
--- Defines when a database file has all metering records, with its write-ahead log or alone.
+-- Defines when a database file has all metering records, either together with its write-ahead log
+-- or without it.
 use Rattle.std.specs.Prelude.{◌≡◌, ℕ, List}
 use Rattle.sqlite_disk.specs.declared.Disk.{Ghosts}
 use Rattle.sqlite_disk.specs.declared.Files.{Files}
@@ -29,7 +30,7 @@ pub record HasPastIn (image : Image) (past : History) : Type 0 where
   pub has : TreesHavePast trees past
 
 -- States that the database file has the records of the accepted events `past`, both alone and with
--- its write-ahead log. The same holds for any files that a crash leaves.
+-- its write-ahead log. The same is true of any files that a crash at this point can leave.
 pub record HasPastAlone {D : Type 0} (g : Ghosts D) (files : Files D) (past : History) :
     Type 0 where
   pub trees : Trees

@@ -22,8 +22,8 @@ abbrev pub set_up_by : List TimedCommand → History
 set_up_by commands = history_with (Opened 0 ∷ []) commands
 
 -- States that the open meters of an old store continue in a new store. The old store was only
--- queried. The commands `commands` follow from the old store's records, and install `meters`
--- meters. The new store was opened at time 0, and accepted only these commands.
+-- queried. The commands, which install `meters` meters, follow from the old store's records. The
+-- new store was opened at time 0, and accepted only these commands.
 pub record GoesOn {O N : Type 0} (of_old : O → Ledger) (of_new : N → Ledger) (old : O)
     (until : Option ℕ) (meters : ℕ) : Type 0 where
   pub asked : O
@@ -54,8 +54,9 @@ module _ {S : Type 0} (g : Ghosts S) where
     pub stands : StandsIfClean (ledger_beneath g) (set_up_by commands) office
 
   -- States that the open meters in the records `facts` of an old database continue in a new
-  -- database with the same time zone. The new database accepted only the commands `commands`, which
-  -- install `meters` meters. The claims hold only if the disks returned what was written to them.
+  -- database with the same time zone. The new database accepted only commands that follow from
+  -- `facts` and install `meters` meters. The statement assumes that the disks returned what was
+  -- written to them.
   pub record IsCarriedInto (facts : List Fact) (zone : List ℕ) (until : Option ℕ)
       (new : Held S) (meters : ℕ) : Type 0 where
     pub asked : SqlBooks S g

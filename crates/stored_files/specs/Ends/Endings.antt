@@ -21,8 +21,8 @@ ending_number (NoSeal file) = 2
 ending_number (Twice file) = 2
 ending_number (Failed failure) = 3
 
--- States that a message on standard error reports how the command ended. There is no message after
--- success or a refusal.
+-- True if a message on standard error reports this ending. Only endings with an exit status greater
+-- than 1 have such a message, not success (0) or a refusal (1).
 abbrev pub IsReported : Ending → Type 0
 IsReported ending = 1 < ending_number ending
 

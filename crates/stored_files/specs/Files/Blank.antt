@@ -10,7 +10,7 @@ use Rattle.sqlite.specs.Files.{file_state, IsBlankAs}
 
 module _ {D : Type 0} {g : Ghosts D} where
   -- States that the pages of a database have no checksums if its file was empty when it was opened.
-  -- The statement holds only if the disk returned what was written to it.
+  -- The statement assumes that the disk returned what was written to it.
   abbrev pub HasNoSumsIfBlank : Image → Held (FileStore D g) → Type 0
   HasNoSumsIfBlank image c =
       HasCleanDisk (file_state c) → IsBlankAs false image → (view c.store).has_sums ≡ false

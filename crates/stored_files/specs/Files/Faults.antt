@@ -6,7 +6,7 @@ use Rattle.sqlite.specs.declared.error.Error.TheVariants.{SqliteFailure}
 use Rattle.stored_files.specs.declared.files.faults.FileFault.{FileFault}
 use Rattle.stored_files.specs.declared.files.faults.FileFault.TheVariants.{Missing, Busy, NoDatabase, Unreadable, Irregular, Log, Memory}
 
--- The number from 1 that identifies a fault of opening a database file.
+-- The numeric code (from 1) of each fault of opening a database file.
 abbrev pub file_fault_number : FileFault → ℕ
 file_fault_number Missing = 1
 file_fault_number Busy = 2

@@ -39,15 +39,15 @@ module _ {K : Type 0} (k : keepings.Ghosts K) where
       → k.keeps its range register files before.kept
       → k.keeps its range register (facts ∷ files) new.kept
 
-  -- States that `new` is the data of a merged report on the files of `old` and on a further file
-  -- with the records `facts`.
+  -- States that adding a file with the records `facts` to the data `old` of a merged report gives
+  -- the data `new`. `new` then covers the files of `old` and this file.
   abbrev pub JoinsOne : DayRange → (register : List ℕ) → (facts : List Fact) → (old new : K)
       → Type 0
   JoinsOne range register facts old new = (its : Zone) (files : List (List Fact))
       → k.keeps its range register files old → k.keeps its range register (facts ∷ files) new
 
-  -- States that a store was only queried, and that the data which a merged report needs from its
-  -- records was added to the report.
+  -- States that a store was only queried, and that the data that a merged report needs from the
+  -- store's records were added to the report.
   pub record JoinsBooks {B : Type 0} (ledger : B → Ledger) (books : B) (range : DayRange)
       (register : List ℕ) (old new : K) : Type 0 where
     pub asked : B
@@ -55,8 +55,8 @@ module _ {K : Type 0} (k : keepings.Ghosts K) where
     pub joins : (known : List Fact) → (ledger books).holds known → (ledger asked).is_clean
         → JoinsOne range register known old new
 
-  -- States why a file with the records `facts` can't be added to a merged report of several files,
-  -- for the reason `why`. Only the reason `Unjoined` says something about the records.
+  -- States why a file with the records `facts` can't be added to a merged report of several files.
+  -- Of the reasons `why`, only `Unjoined` states something about the records.
   abbrev pub Parts : DayRange → (register : List ℕ) → (facts : List Fact) → K → JoinFault → Type 0
   Parts range register facts kept (fault.Unjoined why) = k.parts range register facts kept why
   Parts range register facts kept why = Unit {0}
@@ -71,8 +71,8 @@ module _ {K : Type 0} (k : keepings.Ghosts K) where
         → Parts range register known kept why
 
   module _ {S : Type 0} (g : Ghosts S) where
-    -- States that the records `facts` of a database file were added to a merged report, as
-    -- `JoinsBooks` states for any store.
+    -- States that the store in a database file was only queried, and that the data of its records
+    -- `facts` were added to a merged report.
     pub record JoinsFile (old : Held S) (range : DayRange) (register : List ℕ)
         (facts : List Fact) (kept new : K) : Type 0 where
       pub asked : SqlBooks S g
@@ -80,8 +80,8 @@ module _ {K : Type 0} (k : keepings.Ghosts K) where
       pub joins : (ledger_beneath g asked).is_clean → JoinsOne range register facts kept new
 
     -- States that a file with the records `facts` and the time zone `zone` was added to a merged
-    -- report, whose earlier files have the same time zone. The claims hold only if the disk
-    -- returned what was written to it.
+    -- report. The report's earlier files have the same time zone. The statement assumes that the
+    -- disk returned what was written to it.
     pub record JoinsOffice (old : Held S) (zone : List ℕ) (range : DayRange) (register : List ℕ)
         (facts : List Fact) (before : Option (JoinedOffice K)) (new : JoinedOffice K) : Type 0 where
       pub asked : SqlBooks S g
@@ -91,8 +91,8 @@ module _ {K : Type 0} (k : keepings.Ghosts K) where
       pub joins : (ledger_beneath g asked).is_clean
           → JoinsNext zone range register facts before new
 
-    -- States that the records `facts` of a database file could not be added to a merged report, as
-    -- `PartsBooks` states for any store.
+    -- States that the store in a database file was only queried. For the reason `why`, its records
+    -- `facts` could not be added to a merged report.
     pub record Refuses (old : Held S) (range : DayRange) (register : List ℕ) (facts : List Fact)
         (kept : K) (why : JoinFault) : Type 0 where
       pub asked : SqlBooks S g
@@ -130,8 +130,8 @@ module _ {K : Type 0} (k : keepings.Ghosts K) where
         IsRefused old zone range register facts before (fault.Unjoined why)
     RefusesIn old zone range register facts before (fault.Books why) = Unit {0}
 
-    -- States that the file has another time zone than the earlier files, provided that the disk
-    -- returned what was written to it.
+    -- States that, if the disk returned what was written to it, then the file has another time zone
+    -- than the earlier files.
     pub record IsElsewhere (zone : List ℕ) (before : Option (JoinedOffice K)) : Type 0 where
       pub left : Held S
       pub other : HasCleanDisk (state g left) → IsOfZone zone before → ⊥

@@ -9,8 +9,9 @@ use Rattle.sqlite_wal.specs.Recovery.{Passes, Replays, frame, frame_at, header, 
 abbrev pub HasRoom : List ℕ → Type 0
 HasRoom log = 32 + 24 ≤ length log
 
--- States that frame `i` of a write-ahead log begins a transaction directly after another. Frame `i`
--- - 1 ends a commit, and frame `i` continues the checksum of frame `i` - 1.
+-- States that frame `i` of a write-ahead log begins a transaction directly after another
+-- transaction. The frame before frame `i` ends a commit, and frame `i` continues this frame's
+-- checksum.
 pub record Begins (page_size : ℕ) (log : List ℕ) (i : ℕ) : Type 0 where
   pub commits : commit_size (frame page_size log (i - 1)) ≢ 0
   pub passes : Passes page_size log i
@@ -23,7 +24,7 @@ IsOpen page_size log k = slice_index log (frame_at page_size k + 8) ≡ slice_in
 -- States that a transaction begins at frame `i`, but that recovery ends earlier, at frame `k`. A
 -- transaction begins only after the previous one is on the disk. The transaction at frame `k` was
 -- therefore complete, and was damaged later. If the first salt byte of frame `k` differs from the
--- header's, frame `i` must be a count frame, an extra frame of a commit.
+-- log header's, frame `i` must be a count frame (an extra frame of a commit).
 pub record IsCutOff (page_size : ℕ) (log : List ℕ) (k i : ℕ) : Type 0 where
   pub behind : k < i
   pub begins : Begins page_size log i
@@ -51,8 +52,8 @@ IsSound page_size log = (length log < 32 + 24) ⊎ IsWhole page_size log
 -- Definitions of write-ahead logs whose first byte a checkpoint has changed.
 
 -- States that the first byte of a write-ahead log is not that of an SQLite log. A checkpoint
--- changes this byte once the database file has all pages of the log. It restores the byte when the
--- log's new header is on the disk.
+-- changes this byte once the database file has all pages of the log. The checkpoint restores the
+-- byte when the log's new header is on the disk.
 abbrev pub IsShut : List ℕ → Type 0
 IsShut log = slice_index log 0 ≢ 0x37
 
@@ -79,7 +80,7 @@ pub record KeepsAll (page_size : ℕ) (log db : List ℕ) : Type 0 where
 abbrev pub IsEmptied : ℕ → List ℕ → List ℕ → Type 0
 IsEmptied page_size log db = KeepsAll page_size (opened log) db
 
--- Definition of log headers that differ from a damaged header in one byte.
+-- Defines the valid log headers that differ from a damaged header in one byte.
 
 -- States that `other` is a valid header of a write-ahead log that differs from the header `head` in
 -- at most one byte.

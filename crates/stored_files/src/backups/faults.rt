@@ -28,8 +28,8 @@ pub enum CopyFault {
     Memory,
 }
 
-// Writes the reason why a file can't be copied, and the remedy. The program prints this text after
-// the name of the file.
+// Writes the reason why a file can't be copied, and what the user can do. The program prints this
+// text after the name of the file.
 impl Display for CopyFault {
     fn fmt<W: fmt::Write>(&self, f: &mut Formatter<W>) -> fmt::Result {
         f.write_str(match self {
@@ -50,8 +50,8 @@ impl Display for CopyFault {
     }
 }
 
-/// Maps a fault of opening a copy to a `CopyFault`. The original log was checked before. Damage in
-/// the copy's log therefore means that a commit was written during the copying.
+/// Maps a fault of opening a copied database to a `CopyFault`. The original file's log was checked
+/// earlier. Damage in the copy's log therefore means that a commit was written during the copying.
 pub(crate) fn copy_fault_of(fault: FileFault) -> CopyFault
     ensures { result ≡ copy_fault_of fault }
 {

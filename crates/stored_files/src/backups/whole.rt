@@ -31,9 +31,9 @@ fn close_alone<D: Disk + Drop>(connection: Connection<FileStore<D>>) -> Result<F
     }
 }
 
-/// Merges the write-ahead log of a database into the database file, and returns both. The file
-/// alone then has all records. The tables may be of any version. Returns `NotOurs` unless the
-/// tables have the names of the tables of `sunreg`, in their order.
+/// Merges the write-ahead log of a database into the database file, and returns both files. The
+/// database file alone then has all records. The tables may be of any version. Returns `NotOurs`
+/// unless the tables have the names of the tables of `sunreg`, in their order.
 pub fn whole_files<D: Disk + Drop>(
     connection: Connection<FileStore<D>>,
 ) -> Result<Files<D>, CopyFault>
@@ -51,8 +51,8 @@ pub fn whole_files<D: Disk + Drop>(
 
 /// Merges the write-ahead log beside the file at a path into the file, even if the log has lost
 /// commits. The file then has the records that SQLite's recovery finds. No other process may have
-/// the file or the log open, because the result would lack that process's writes. `S` specifies the
-/// earlier content of the file and the log.
+/// the file or the log open, because the result would lack the other process's writes. The type `S`
+/// specifies the content of the file and the log before the merge.
 pub fn recovered_file<S: Start>(
     rt: &HostRuntime,
     path: &str,
@@ -68,8 +68,8 @@ pub fn recovered_file<S: Start>(
     }
 }
 
-/// Merges the write-ahead log beside the file at a path into the file, as `recovered_file` does,
-/// but only if the log has lost no commits.
+/// Merges the write-ahead log beside the file at a path into the file, as `recovered_file` does.
+/// Fails if the log has lost commits.
 pub fn whole_file<S: Start>(
     rt: &HostRuntime,
     path: &str,

@@ -1,4 +1,4 @@
-//! Lets the open meters of one database continue in a new database, each from its last entry.
+//! Continues the open meters of one database in a new database, each from its last entry.
 ghost use Rattle.std.specs.Prelude.{◌≡◌, ℕ, List, [], Err, IfOk};
 ghost use Rattle.office_events.specs.declared.facts.Fact.{Fact};
 ghost use Rattle.office_books.specs.History.{History, facts_of};
@@ -88,7 +88,7 @@ fn carry_opened<S: Alter + Drop>(
 
 /// Creates a new store in an empty database, with the time zone of the old store. Each open meter
 /// continues in the new store from its last entry. Returns the number of these meters. The new
-/// store is opened at time 0, before every later timestamp.
+/// store is opened at time 0, so that every later timestamp is accepted.
 pub fn carry_stored<S: Alter + Drop>(
     alloc: Global,
     old: Connection<S>,

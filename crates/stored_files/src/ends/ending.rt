@@ -60,7 +60,7 @@ pub fn ending_of(status: ExitStatus) -> Ending<'static>
 }
 
 /// Writes the error message of a command to `errors`. Writes nothing after success or a refusal,
-/// because standard output reports these. Ignores a failure to write.
+/// because standard output reports these endings. Ignores a failure to write.
 pub fn say<W: Write>(ending: &Ending<'_>, errors: &mut W)
     ensures { IsReported ending.now ⊎ (errors.new ≡ errors.old) }
 {

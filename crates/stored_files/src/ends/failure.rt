@@ -43,7 +43,8 @@ pub enum Failure<'a> {
         path: &'a str,
         fault: OpenFault,
     },
-    /// The file has no tables. They may be in the file's write-ahead log, which may be missing.
+    /// The file has no tables. The tables may be in the file's write-ahead log, and this log may be
+    /// missing.
     Bare {
         path: &'a str,
     },

@@ -102,7 +102,7 @@ fn check_log_for(rt: &HostRuntime, path: &str, log: &[u8], size: PageSize) -> Re
 }
 
 // Checks the write-ahead log beside the file at a path once. Accepts a file whose header has no
-// valid page size, because opening the file reports that it is no database.
+// valid page size, because opening such a file later reports that it is no database.
 fn check_once(rt: &HostRuntime, path: &str) -> Result<(), FileFault>
     ensures { IfErr result (λ fault. fault ≢ FileFault.Missing) }
 {
@@ -118,9 +118,9 @@ fn check_once(rt: &HostRuntime, path: &str) -> Result<(), FileFault>
 }
 
 /// Checks that opening the database file at a path loses no commit in its log. While another
-/// process writes, a check may find damage that does not exist. After damage, the function
+/// process writes, a check may find damage that does not exist. If the function finds damage, it
 /// therefore checks again. It reports damage only if both checks find the same damage, and `Busy`
-/// if they find different damage. By the second check, everything written before the first check is
+/// if they find different damage. At the second check, everything written before the first check is
 /// in the files.
 pub fn check_beside(rt: &HostRuntime, path: &str) -> Result<(), FileFault>
     ensures { IfErr result (λ fault. fault ≢ FileFault.Missing) }

@@ -26,7 +26,7 @@ pub enum FileFault {
 }
 
 impl FileFault {
-    /// Returns a number from 1 that identifies the fault. The program never prints this number.
+    /// Returns the numeric code of the fault, from 1. The program never prints this code.
     pub fn number(self) -> u8
         ensures { result ≡ file_fault_number self }
     {
@@ -42,8 +42,8 @@ impl FileFault {
     }
 }
 
-// Writes the reason why a database file can't be opened, and the remedy. The program prints this
-// text after the name of the file.
+// Writes the reason why a database file can't be opened, and what the user can do. The program
+// prints this text after the name of the file.
 impl Display for FileFault {
     fn fmt<W: fmt::Write>(&self, f: &mut Formatter<W>) -> fmt::Result {
         f.write_str(match self {

@@ -12,19 +12,28 @@ use crate::files::faults::{FileFault, fault_of};
 use sqlite::{Alter, Connection, FileFrom, FileStore, Start};
 use std::fs;
 
-/// A connection to a database in a file. `S` specifies the file's content when it is opened.
+/// A connection to a database in a file. The type `S` specifies the content that the file has when
+/// it is opened.
 pub type FileConnection<S> = Connection<FileStore<FileFrom<S>>>;
 
-/// A trait for opening databases. Functions that use a connection are generic over the trait,
-/// because proofs about a connection to a file take minutes each.
+/// A trait for opening databases. Functions that use a connection are generic over this trait. If
+/// they named the type of a connection to a file, their proofs would take minutes each.
 pub trait Databases {
+    ghost use Rattle.std.specs.Prelude.{ℕ, List, IfOk};
+    ghost use Rattle.sqlite.specs.Held.{Held};
+
     type Store: Alter + Drop;
+
+    /// True if opening the file at a path may give this connection. For the files of the operating
+    /// system it is always true, because no contract says which bytes such a file has.
+    ghost opens: { Self → List ℕ → Held Self.Store → Type 0 };
 
     /// Opens the database at a path, and creates it if it does not exist.
     fn make(&self, path: &str) -> Result<Connection<Self::Store>, FileFault>;
 
     /// Opens the existing database at a path.
-    fn open(&self, path: &str) -> Result<Connection<Self::Store>, FileFault>;
+    fn open(&self, path: &str) -> Result<Connection<Self::Store>, FileFault>
+        ensures { IfOk result (opens self.now path.now) };
 }
 
 /// Opens the database in a file, or creates an empty database if the file does not exist. Unlike

@@ -17,7 +17,7 @@ pub enum LogHeader {
     Lost,
 }
 
-// Returns the header of a write-ahead log, or None if the log is too short to have a frame.
+// Returns the header of a write-ahead log, or None if the log is too short for a frame.
 fn header_of(log: &[u8]) -> Option<[u8; 32]> {
     if log.len() < HEADER_LEN + FRAME_HEADER_LEN {
         return None;

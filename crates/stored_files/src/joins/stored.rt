@@ -26,7 +26,7 @@ pub enum JoinFault {
     Unopened(OpenFault),
     /// The file has another time zone than the earlier files of the merged report.
     OtherZone,
-    /// The accounting register (a named counter of a device), or a meter at this register, does not
+    /// The accounting register (a named counter of a device), or one of its meters, does not
     /// continue from the earlier files.
     Unjoined(Unjoined),
     /// The file's store failed, or memory ran out.
@@ -73,7 +73,7 @@ fn kept_before<K: Keeping>(
     }
 }
 
-// Adds the data that a merged report of several files needs from a store.
+// Queries a store, and adds the data that a merged report of several files needs from the store.
 fn join_books<B: Books, K: Keeping>(
     books: B,
     kept: K,
@@ -119,7 +119,8 @@ fn join_opened<S: Alter + Drop, K: Keeping>(
     }
 }
 
-// Adds a file to a merged report, if the earlier files have the same time zone.
+// Adds a file to a merged report. The caller must have checked that the earlier files have the same
+// time zone.
 fn join_in_zone<S: Alter + Drop, K: Keeping>(
     alloc: Global,
     connection: Connection<S>,
@@ -157,9 +158,9 @@ fn refused<K: Keeping>(
     Err(why)
 }
 
-/// Adds a database to a merged report of earlier files, if there are any. The report is about an
-/// accounting register (a named counter of a device) in a range of days. Writes nothing to the
-/// database.
+/// Adds a database to the merged report of the earlier files, or begins a report if there are no
+/// earlier files. The report is about an accounting register (a named counter of a device) in a
+/// range of days. Writes nothing to the database.
 pub fn join_stored<S: Alter + Drop, K: Keeping>(
     alloc: Global,
     connection: Connection<S>,

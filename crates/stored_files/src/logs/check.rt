@@ -19,11 +19,11 @@ use std::io;
 /// The offset of the first salt byte in a write-ahead log's header.
 const SALT: usize = 16;
 
-/// The offset of the first salt byte (the frame's gate) in a frame of a write-ahead log.
+/// The offset of the first salt byte in the header of a frame of a write-ahead log.
 const GATE: usize = 8;
 
-/// The page number that marks a count frame, an extra frame of a commit. From the count frame,
-/// recovery detects that bytes of the commit's frames were lost and read as zeros.
+/// The page number that marks a count frame, an extra frame of a commit. With the count frame,
+/// recovery detects that bytes of the commit's frames were lost and now read as zeros.
 const COUNT_PAGE: u32 = 0xff00_0000;
 
 /// A reason why a write-ahead log is rejected.
@@ -33,7 +33,7 @@ pub enum LogFault {
     /// database file.
     Header,
     /// The count frame of a commit (an extra frame that shows lost bytes) reports a loss, although
-    /// more was written after the commit.
+    /// further commits were written later.
     Count,
     /// SQLite's recovery would end at byte offset `at` of the write-ahead log, and would lose a
     /// complete transaction that begins there.
@@ -75,8 +75,9 @@ fn is_cut_off(log: &[u8], page_size: usize, taken: usize, i: usize) -> bool
     begins(log, page_size, i) && was_complete(log, page_size, taken, i)
 }
 
-// Returns the first frame that proves a loss: it begins a transaction, and recovery would lose an
-// earlier complete transaction. `taken` is the number of frames that recovery replays.
+// Returns the index of the first frame that proves a loss: the frame begins a transaction, but
+// recovery would lose an earlier complete transaction. `taken` is the number of frames that
+// recovery replays.
 fn find_cut_off(log: &[u8], page_size: usize, taken: usize) -> Option<usize>
     requires room { 32 ≤ length log.now }
     requires size { page_size ≤ 65536 }

@@ -33,7 +33,7 @@ fn page_in(db: &[u8], page_size: usize, number: usize) -> &[u8]
 }
 
 // Returns whether replaying the write-ahead log's frames would leave page `number` of the database
-// file unchanged.
+// file unchanged. `pages` has the page number of each replayed frame.
 fn has_page(log: &[u8], db: &[u8], page_size: usize, pages: &[u32], number: usize) -> bool
     requires first { 0 < number }
     requires size { page_size ≤ 65536 }
@@ -75,8 +75,8 @@ fn has_all_pages(log: &[u8], db: &[u8], page_size: usize, pages: &[u32]) -> bool
     true
 }
 
-// Returns a copy of a write-ahead log with the first byte of a log that is in use, as it was before
-// a checkpoint changed this byte.
+// Returns a copy of a write-ahead log in which the first byte is that of a log in use. A checkpoint
+// has changed this byte in the log.
 fn opened_log(alloc: Global, log: &[u8]) -> Result<Vec<u8>, AllocError>
     requires { 0 < length log.now }
     ensures { IfOk result (λ it. it.items ≡ opened log.now) }

@@ -73,9 +73,9 @@ pub(crate) fn frame_offset(page_size: usize, i: usize) -> usize
     HEADER_LEN + i * (FRAME_HEADER_LEN + page_size)
 }
 
-/// Returns whether SQLite accepts a frame of a write-ahead log. The frame must have the salts of
-/// the log's header `head`, a page number, and a checksum that continues the previous frame's
-/// checksum `before`.
+/// Returns whether SQLite accepts a frame of a write-ahead log. SQLite accepts a frame with the
+/// salts of the log's header `head`, a page number, and a checksum that continues the previous
+/// frame's checksum `before`.
 fn is_frame(head: &[u8], before: (u32, u32), frame: &[u8]) -> bool
     requires head { length head.now ≡ 32 }
     requires frame { 24 ≤ length frame.now }

@@ -1,4 +1,4 @@
--- Defines when further messages on standard error follow the end of a task.
+-- Defines which results of a task lead to further messages on standard error.
 use Rattle.std.specs.Prelude.{Bool, true, false, Result, Ok, Err}
 use Rattle.command_io.specs.declared.status.ExitStatus.{ExitStatus}
 use Rattle.command_io.specs.declared.status.ExitStatus.TheVariants as status
@@ -23,9 +23,9 @@ abbrev pub is_refusal : ExitStatus → Bool
 is_refusal status.Refused = true
 is_refusal _ = false
 
--- True if explanations follow a round of polls. They follow only if the round was completed, or if
--- the office (the part that checks and records events) refused to open or to poll. Any other
--- failure has its own message.
+-- True if explanatory messages on standard error follow a round of polls. They follow if the round
+-- was completed, or if the office (the part that checks and records events) refused to open or to
+-- poll. Any other failure has its own message.
 abbrev pub has_messages : PollEnd → Bool
 has_messages (Polled done) = is_finished done
 has_messages (Unopened why) = is_refusal why
@@ -45,11 +45,10 @@ is_refused_polling (Unopened why) = is_refusal why
 is_refused_polling Unconnected = false
 
 -- True if a task may have failed because the latest record in the database is later than the clock.
--- The task itself prints only the number of the refusal, and not this cause.
+-- The task itself prints only the numeric code of the refusal, and not this cause.
 abbrev pub may_be_ahead : Done → Bool
 may_be_ahead (task.Reported status) = false
 may_be_ahead (task.Served end) = is_refused_serving end
 may_be_ahead (task.Entered status) = is_refusal status
-may_be_ahead (task.Checked status) = false
 may_be_ahead (task.Polled end) = is_refused_polling end
 may_be_ahead (task.Ran end) = false

@@ -12,8 +12,8 @@ abbrev pub with_lacks : List DeviceLack → List ℕ → List ℕ
 with_lacks [] text = text
 with_lacks (lack ∷ lacks) text = with_lacks lacks (with_lack lack text)
 
--- States that a successful call appends a line for each part of the device's setup that is missing
--- in the store. The statement holds only if no wrong result of the store was used.
+-- States that, if no wrong result of the store was used, a successful function call appends lines
+-- to a text. There is one line for each part of the device's setup that is missing in the store.
 abbrev pub PutsLacks : {T E : Type 0} → (old new : Ledger) → (device : Option (List ℕ))
     → (before after : List ℕ) → Result T E → Type 0
 PutsLacks old new device before after result = (known : List Fact) → old.holds known

@@ -6,14 +6,15 @@ use Rattle.stored_office.specs.Advice.Remarks.{Says, remark_of}
 use Rattle.stored_office.specs.declared.advice.remarks.Remark.{Remark}
 use Rattle.stored_office.specs.declared.advice.remarks.Remark.TheVariants.{Refused, Held}
 
--- True if `say_remarks` explains a printed refusal or rejected reading. Another function,
--- `say_lacks`, explains refusal 1, for an unknown device or list.
+-- True if `say_remarks` explains the printed refusal or rejected reading. It explains all except
+-- refusal 1 (an unknown device or list), which the function `say_lacks` explains.
 abbrev pub is_left : Remark → Bool
 is_left (Refused number) = not (number == 1)
 is_left (Held meter number) = true
 
--- States that the explanation of a refusal or rejected reading is appended to a text. Nothing is
--- appended if `left` is false, because another function, `say_lacks`, then explains the refusal.
+-- States that the explanation of a refusal or rejected reading is appended to a text. If `left` is
+-- false, states that nothing is appended, because another function, `say_lacks`, then explains the
+-- refusal.
 abbrev pub SaysIf : (left : Bool) → (device : Option (List ℕ)) → Remark → (old new : List ℕ)
     → Type 0
 SaysIf true device remark old new = Says device remark old new
@@ -23,8 +24,8 @@ abbrev pub SaysLeft : (device : Option (List ℕ)) → Option Remark → (old ne
 SaysLeft device None old new = new ≡ old
 SaysLeft device (Some remark) old new = SaysIf (is_left remark) device remark old new
 
--- States that the explanation of a printed line is appended to a text. Nothing is appended if the
--- line has no explanation.
+-- States that the explanation of a printed line is appended to a text. If the line has no
+-- explanation, states that nothing is appended.
 abbrev pub ExplainsLine : (device : Option (List ℕ)) → (line old new : List ℕ) → Type 0
 ExplainsLine device line old new =
     SaysLeft device (remark_of (words_of line)) old new

@@ -10,7 +10,7 @@ use Rattle.script_text.specs.LineWords.Fields.{AnyName, Number, first_value, end
 use Rattle.stored_office.specs.declared.advice.remarks.Remark.{Remark}
 use Rattle.stored_office.specs.declared.advice.remarks.Remark.TheVariants.{Refused, Held}
 
--- The number as an error number of 32 bits, or None if it is 2^32 or greater.
+-- The number as a numeric code of 32 bits, or None if the number is 2^32 or greater.
 abbrev pub small : ℕ → Option ℕ
 small number = if nat_lt number 4294967296 then Some number else None
 
@@ -49,23 +49,23 @@ or_hold None held = held
 abbrev pub remark_of : (words : List (List ℕ)) → Option Remark
 remark_of words = or_hold (refusal_of words) (hold_of words)
 
--- States that a line with the meaning and the remedy of a printed number is appended to a text if
--- `known` is true. Otherwise nothing is appended.
+-- States that, if `known` is true, a line with the meaning and the remedy of a printed numeric code
+-- is appended to a text. Otherwise states that nothing is appended.
 abbrev pub MeansIf : (known : Bool) → (subject : Option (List ℕ)) → Kind → (before : List ℕ)
     → (number : ℕ) → (old new : List ℕ) → Type 0
 MeansIf true subject k before number old new =
     MeansAfter k number before (with_subject subject old) new
 MeansIf false subject k before number old new = new ≡ old
 
--- States that the explanation of a printed number is appended to a text, if the program prints this
--- number for the kind `k`.
+-- States that the explanation of a printed numeric code is appended to a text. If the kind `k` has
+-- no such code, states that nothing is appended.
 abbrev pub MayMean : (subject : Option (List ℕ)) → Kind → (before : List ℕ) → (number : ℕ)
     → (old new : List ℕ) → Type 0
 MayMean subject k before number old new =
     MeansIf (has_number k number) subject k before number old new
 
--- States that the explanation of a refusal or rejected reading is appended to a text. The
--- explanation names the refusal's device or the reading's meter.
+-- States that the explanation of a refusal or rejected reading, if it has one, is appended to a
+-- text. The explanation names the refusal's device or the reading's meter.
 abbrev pub Says : (device : Option (List ℕ)) → Remark → (old new : List ℕ) → Type 0
 Says device (Refused number) old new = MayMean device kind.Refused (codes ": ") number old new
 Says device (Held meter number) old new =

@@ -10,7 +10,7 @@ use Rattle.office_running.specs.declared.fault.RunFault.{RunFault}
 use Rattle.office_running.specs.declared.fault.RunFault.TheVariants as run
 use Rattle.stored_files.specs.declared.ends.failure.Failure.{Failure}
 use Rattle.stored_office.specs.declared.tasks.tasks.Done.{Done}
-use Rattle.stored_office.specs.declared.tasks.tasks.Done.TheVariants.{Reported, Served, Entered, Checked, Polled, Ran}
+use Rattle.stored_office.specs.declared.tasks.tasks.Done.TheVariants.{Reported, Served, Entered, Polled, Ran}
 
 -- The exit status of the command `serve`, which serves HTTP.
 abbrev pub serving_number : ServeEnd → ℕ
@@ -40,7 +40,6 @@ abbrev pub done_number : Result Done Failure → ℕ
 done_number (Ok (Reported status)) = status_number status
 done_number (Ok (Served end)) = serving_number end
 done_number (Ok (Entered status)) = status_number status
-done_number (Ok (Checked status)) = status_number status
 done_number (Ok (Polled end)) = polling_number end
 done_number (Ok (Ran end)) = run_number end
 done_number (Err failure) = 3

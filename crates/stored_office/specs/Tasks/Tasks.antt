@@ -9,7 +9,6 @@ use Rattle.office_program.specs.RangedReport.{AnswersRange}
 use Rattle.office_program.specs.Statement.{ReportsStatement}
 use Rattle.office_program.specs.HttpPort.{ReportsServing, port as port_of}
 use Rattle.office_program.specs.PortRound.{ReportsPolling}
-use Rattle.office_program.specs.Entering.Checked.{LooksOver}
 use Rattle.office_program.specs.Entering.Entered.{ReportsEntering}
 use Rattle.office_program.specs.Entering.Lines.{Reporting}
 use Rattle.office_running.specs.Runs.{BooksRun}
@@ -19,7 +18,7 @@ use Rattle.stored_office.specs.OverBooks.{OverBooks, ledger_in}
 use Rattle.stored_office.specs.declared.tasks.tasks.Task.{Task}
 use Rattle.stored_office.specs.declared.tasks.tasks.Task.TheVariants as task
 use Rattle.stored_office.specs.declared.tasks.tasks.Done.{Done}
-use Rattle.stored_office.specs.declared.tasks.tasks.Done.TheVariants.{Reported, Served, Entered, Checked, Polled, Ran}
+use Rattle.stored_office.specs.declared.tasks.tasks.Done.TheVariants.{Reported, Served, Entered, Polled, Ran}
 
 -- States that a task's result is of the kind that the task returns, such as an exit status.
 abbrev pub IsOf : Task → Done → Type 0
@@ -28,7 +27,6 @@ IsOf (task.ReportRange register form) (Reported end) = Unit {0}
 IsOf (task.Statement register form) (Reported end) = Unit {0}
 IsOf (task.Serve host port names connections) (Served end) = Unit {0}
 IsOf (task.Enter caller text) (Entered end) = Unit {0}
-IsOf (task.Check caller text) (Checked end) = Unit {0}
 IsOf (task.Round device host port) (Polled end) = Unit {0}
 IsOf (task.Run settings sites) (Ran end) = Unit {0}
 IsOf _ _ = ⊥
@@ -44,9 +42,9 @@ module _ {B : Type 0} (ledger : B → Ledger) where
       × LooksUp (ledger polled) (ledger left)
 
 module _ {B : Type 0} (ledger : B → Ledger) (reports : Reporting) (past : History) where
-  -- States that the task changed the store from `found` to `left`, and the output from `had` to
-  -- `holds`, and had the result `Done`. `reports` has the contents of the files and counters that
-  -- an input text names.
+  -- States that the task fulfilled its specification. It changed the store from `found` to `left`
+  -- and the output from `had` to `holds`, and returned the given result. `reports` has the contents
+  -- of the files and counters that an input text names.
   unfoldable pub Does : (moments later had holds : Option (List ℕ))
       → (found left : B) → Task → Done → Type 0
   Does moments later had holds found left (task.Report register) (Reported end) =
@@ -60,8 +58,6 @@ module _ {B : Type 0} (ledger : B → Ledger) (reports : Reporting) (past : Hist
       holds end
   Does moments later had holds found left (task.Enter caller text) (Entered end) =
       ReportsEntering ledger past reports caller.now text.now moments later found left had holds end
-  Does moments later had holds found left (task.Check caller text) (Checked end) =
-      LooksOver reports caller.now text.now (ledger left) had holds end past
   Does moments later had holds found left (task.Round device host port) (Polled end) =
       PollsAndLooks ledger past device.now moments later found left had holds end
   Does moments later had holds found left (task.Run settings sites) (Ran end) =

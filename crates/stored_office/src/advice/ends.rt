@@ -6,9 +6,9 @@ use crate::tasks::Done;
 use command_io::ExitStatus;
 use office_program::{PollEnd, RoundFault, ServeEnd};
 
-/// Returns whether explanations follow a round of polls. They follow only if the round was
-/// completed, or if the office (the part that checks and records events) refused to open or to
-/// poll. Any other failure has its own message.
+/// Returns whether explanatory messages on standard error follow a round of polls. They follow if
+/// the round was completed, or if the office (the part that checks and records events) refused to
+/// open or to poll. Any other failure has its own message.
 pub(crate) fn has_messages(end: PollEnd) -> bool
     ensures { result ≡ ends.has_messages end }
 {
@@ -61,8 +61,8 @@ fn is_refused_polling(end: PollEnd) -> bool
 }
 
 /// Returns whether a task may have failed because the latest record in the database is later than
-/// the clock. Such a task prints only the number of the refusal, and not this cause. The command
-/// `run` explains the refusal itself.
+/// the clock. Such a task prints only the numeric code of the refusal, and not this cause. The
+/// command `run` explains the refusal itself.
 pub fn may_be_ahead(done: Done) -> bool
     ensures { result ≡ ends.may_be_ahead done }
 {
@@ -70,7 +70,6 @@ pub fn may_be_ahead(done: Done) -> bool
         Done::Reported(_) => false,
         Done::Served(end) => is_refused_serving(end),
         Done::Entered(status) => is_refusal(status),
-        Done::Checked(_) => false,
         Done::Polled(end) => is_refused_polling(end),
         Done::Ran(_) => false,
     }

@@ -42,8 +42,8 @@ fn write_lacks_of<B: Books>(
 }
 
 /// Writes a line for each part of the device's setup that is missing in the store. Writes nothing
-/// if the round failed without a refusal. A device name that is not valid counts as an unknown
-/// device. If the store, memory or the writer fails, some lines may be missing.
+/// if the round of polls failed without a refusal. A device name that is not valid counts as an
+/// unknown device. If the store, memory or the writer fails, some lines may be missing.
 pub fn say_lacks<B: Books, E: Write>(
     alloc: Global,
     books: &mut B,

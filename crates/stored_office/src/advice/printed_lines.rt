@@ -13,8 +13,8 @@ use office_program::PollEnd;
 use std::alloc::{AllocError, Global};
 use std::io::Write;
 
-// Returns whether `say_remarks` explains a printed refusal or rejected reading. Another function,
-// `say_lacks`, explains refusal 1, for an unknown device or list.
+// Returns whether `say_remarks` explains the printed refusal or rejected reading. It explains all
+// except refusal 1 (an unknown device or list), which the function `say_lacks` explains.
 fn is_left(remark: &Remark) -> bool
     ensures { result ≡ printing.is_left remark.now }
 {
@@ -38,7 +38,7 @@ fn write_line(text: &mut Vec<u8>, device: &Option<Name>, line: &[u8]) -> Result<
     }
 }
 
-// Appends the explanations of all lines that a round printed to a text.
+// Appends to a text the explanations of all lines that a round of polls printed.
 fn write_remarks(
     text: &mut Vec<u8>,
     device: &Option<Name>,
@@ -54,9 +54,9 @@ fn write_remarks(
     Ok(())
 }
 
-/// Writes the meaning and the remedy of each refusal and rejected reading that a round printed.
-/// Writes nothing if the round failed without a refusal. If memory or the writer fails, some lines
-/// may be missing.
+/// Writes the meaning and the remedy of each refusal and rejected reading that a round of polls
+/// printed. Writes nothing if the round failed without a refusal. If memory or the writer fails,
+/// some lines may be missing.
 pub fn say_remarks<E: Write>(
     alloc: Global,
     device: &str,

@@ -15,10 +15,10 @@ use std::alloc::AllocError;
 /// The content of a line that a round of polls printed and that needs an explanation.
 #[derive(Clone, Copy)]
 pub(crate) enum Remark {
-    /// The line `refused N`: an event was refused for the reason with the number N.
+    /// The line `refused N`: an event was refused for the reason with the numeric code N.
     Refused(u32),
     /// The line `held METER RAW cause N`: a reading of the meter was rejected for the cause with
-    /// the number N.
+    /// the numeric code N.
     Held(Name, u32),
 }
 
@@ -94,7 +94,7 @@ fn write_subject(text: &mut Vec<u8>, name: &Option<Name>) -> Result<(), AllocErr
     }
 }
 
-// Appends `before` to a text, then the meaning of a printed number, and then what the user can do.
+// Appends `before` to a text, then the meaning of a printed numeric code, and then its remedy.
 fn append_meaning(text: &mut Vec<u8>, before: &[u8], meaning: &Meaning) -> Result<(), AllocError>
     ensures { OnOk result (text.new.items ≡ with_meaning before.now meaning.now text.old.items) }
 {
@@ -105,8 +105,8 @@ fn append_meaning(text: &mut Vec<u8>, before: &[u8], meaning: &Meaning) -> Resul
     append_bytes(text, b"\n")
 }
 
-// Appends a line with the meaning and the remedy of a printed number to a text. Appends nothing if
-// the program never prints this number with the word for its kind, such as `fault`.
+// Appends a line with the meaning and the remedy of a printed numeric code to a text. Appends
+// nothing if the program never prints this code for its kind, such as `refused`.
 fn write_number_of(
     text: &mut Vec<u8>,
     subject: &Option<Name>,
@@ -127,7 +127,7 @@ fn write_number_of(
 }
 
 /// Appends a line with the meaning and the remedy of a refusal or rejected reading to a text.
-/// Appends nothing if its number has no meaning. If memory runs out, the line is incomplete.
+/// Appends nothing if the numeric code has no meaning. If memory runs out, the line is incomplete.
 pub(crate) fn write_remark(
     text: &mut Vec<u8>,
     device: &Option<Name>,

@@ -1,5 +1,5 @@
-//! Runs of an office, the part of the program that checks and records events, over a store in a
-//! database. Their contracts are the main theorem about an office.
+//! Functions that run an office (the part of the program that checks and records events) over a
+//! store in a database. The contracts of these functions are the main theorem about an office.
 ghost use Rattle.std.specs.Prelude.{ℕ, List, [], IfErr, IfOk, IfSome};
 ghost use Rattle.office_core.specs.EventRun.{HandsBack, IsCleanOnlyIfWas, RecordsIfClean};
 ghost use Rattle.office_books.specs.Lawfulness.{IsPast};

@@ -71,7 +71,6 @@ pub fn ending_of_done<'a>(done: Result<Done, Failure<'a>>, host: &'a str, port: 
         Ok(Done::Reported(status)) => ending_of(status),
         Ok(Done::Served(end)) => ending_of_serving(end, host, port),
         Ok(Done::Entered(status)) => ending_of(status),
-        Ok(Done::Checked(status)) => ending_of(status),
         Ok(Done::Polled(end)) => ending_of_polling(end, host, port),
         Ok(Done::Ran(end)) => ending_of_run(end, host, port),
         Err(failure) => Ending::Failed(failure),

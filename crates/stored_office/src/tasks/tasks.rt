@@ -15,7 +15,7 @@ use mb_wire::sockets::Clock;
 use memory_books::kept::CachedBooks;
 use office_books::Books;
 use office_program::{
-    CommandEnd, NamedFiles, PollEnd, ServeEnd, check_books, enter_books, poll_books, report_books,
+    CommandEnd, NamedFiles, PollEnd, ServeEnd, enter_books, poll_books, report_books,
     report_range_books, serve_books, statement_books,
 };
 use office_running::{RunFault, Settings, Site, run_office};
@@ -61,11 +61,6 @@ pub enum Task<'a> {
         caller: &'a str,
         text: &'a [u8],
     },
-    /// Checks the lines of a text without changing the store, as `check_books` does.
-    Check {
-        caller: &'a str,
-        text: &'a [u8],
-    },
     /// Polls the device at a port of a host in one round, as `poll_books` does. Then reports
     /// missing parts of the device's setup, as `say_lacks` does.
     Round {
@@ -86,7 +81,6 @@ pub enum Done {
     Reported(ExitStatus),
     Served(ServeEnd),
     Entered(ExitStatus),
-    Checked(ExitStatus),
     Polled(PollEnd),
     Ran(Result<(), RunFault>),
 }
@@ -157,13 +151,6 @@ fn carry_out<
             CommandEnd {
                 books: done.books,
                 end: Done::Entered(done.end),
-            }
-        }
-        Task::Check { caller, text } => {
-            let done = check_books(alloc, books, caller, text, files, output);
-            CommandEnd {
-                books: done.books,
-                end: Done::Checked(done.end),
             }
         }
         Task::Round { device, host, port } => {

@@ -1,4 +1,4 @@
--- Examples of scans for SunSpec models, at both ends of each limit.
+-- Examples of scans for SunSpec models, at each limit and just past it.
 use Rattle.std.specs.Prelude.{pos, negsuc}
 use Rattle.std.proofs.Common.{◌≡◌, ℕ, ◌+◌, ◌==◌, ◌||◌, ◌&&◌, nat_le, nat_lt, Bool, true, false, if◌then◌else◌, List, [], ◌∷◌, length, Some, None, refl}
 use Rattle.sun_chain.specs.Image.{Words}
@@ -157,7 +157,7 @@ last_two = refl
 half_a_counter : counter_span HoldingRegisters 65535 (Fixed (pos 0)) ≡ None
 half_a_counter = refl
 
--- Examples of the count and the power of ten of a counter in words.
+-- Examples of a counter's count and power of ten, decoded from the words of Modbus registers.
 
 high_word_first : decode_counter 10 (1 ∷ 2 ∷ []) 10 (Fixed (pos 0)) ≡ Some (record { raw = 65538; sf = pos 0 })
 high_word_first = refl

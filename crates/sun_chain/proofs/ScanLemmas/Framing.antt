@@ -54,7 +54,8 @@ frame_alone b whole =
 pub open_nil : IsOpen []
 open_nil = inl (lit< tt)
 
--- If a stream has an invalid length field after its complete frames, more bytes do not change that.
+-- If a stream has an invalid length field after its complete frames, then it still has this invalid
+-- length field there after more bytes arrive.
 pub bad_stays : (b left : List ℕ) → IsBad b → IsBad (rest (b ++ left))
 bad_stays b left bad =
     let same : span_of (b ++ left) ≡ span_of b = span_of-append b left bad.0 in
@@ -63,7 +64,8 @@ bad_stays b left bad =
     let alone = rest_alone (b ++ left) (inr still) in
     subst IsBad (sym alone.1) still
 
--- A call of `feed` that ends a frame completes exactly this frame.
+-- The bytes since the last frame contain exactly the frame that `feed` reports as ended, or no
+-- complete frame if `feed` reports none.
 pub reported : (what : Framing) (b : List ℕ) → ReportsFraming what b → (frames b ≡ ended what b) × (rest b ≡ (buffered_after what b).rest)
 reported Need b reports = rest_alone b (inl reports)
 reported Whole b reports = frame_alone b reports.0

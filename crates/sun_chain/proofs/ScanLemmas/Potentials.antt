@@ -11,8 +11,8 @@ use Rattle.sun_chain.specs.Scanning.Stages.{after_head, checked, head_at, in_mod
 use Rattle.sun_chain.specs.declared.scans.stage.Stage.{Stage}
 use Rattle.sun_chain.specs.declared.scans.stage.Stage.TheVariants.{Mark, Head, Ending, Registers, Over}
 
--- A number that is at least 125 for each read that may follow, plus 1 for each address that may
--- still be requested.
+-- A number that is at least 125 times the number of reads that may still follow. The number counts
+-- 1 for each address that may still be read, and 250 for each model that may still be found.
 abbrev pub potential : Stage → ℕ
 potential (Mark address) = if address == 40000 then 82161 else if address == 50000 then 82036 else 81911
 potential (Head address models) = 250 + 250 * (64 - models) + (65536 - address)

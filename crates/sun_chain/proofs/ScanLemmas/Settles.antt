@@ -1,4 +1,5 @@
--- Lemmas about the result of a Modbus request, by the frames that arrive after it.
+-- Lemmas about the result of a Modbus request. The frames that arrive after the request determine
+-- the result.
 use Rattle.std.proofs.Common.{Global, ◌≡◌, ◌≢◌, ℕ, List, [], ◌∷◌, ◌++◌, length, Option, None, Some, Result, Ok, Err, Bool, true, false, cond, ◌==◌, ◌&&◌, take, refl, sym, ap, ◌∙◌, subst, option_map, find}
 use Rattle.std.specs.Prelude.{IfOk, IfSome, Vec, unwrap_or}
 use Rattle.std.proofs.lemmas.Bool.{eq-eqb, ne_eqb}
@@ -93,8 +94,8 @@ own_after Garbled b reports = tt
 pub own_held : (what : Framing) (b : List ℕ) (buffered : Buffered) → ReportsFraming what b → buffered ≡ buffered_after what b → IfSome buffered.frame IsOwn
 own_held what b buffered reports is = subst (λ (h : Buffered). IfSome h.frame IsOwn) (sym is) (own_after what b reports)
 
--- The result of a request from a chunk is that of the first frame that the chunk completes, or
--- otherwise that of its remaining bytes.
+-- If the first frame that a chunk completes is the response to a request, then it determines the
+-- result. Otherwise the remaining bytes of the chunk determine the result.
 pub piece_settles : (ask : Ask) (what : Framing) (r piece : List ℕ) (taken : ℕ) (buffered : Buffered) → ReportsFraming what (r ++ take taken piece) → buffered ≡ buffered_after what (r ++ take taken piece)
     → settled ask (frames (r ++ piece)) ≡ first_of (settled ask (frames_held buffered.frame)) (settled ask (frames (buffered.rest ++ from taken piece)))
 piece_settles ask what r piece taken buffered reports is =

@@ -9,8 +9,8 @@ use Rattle.sun_chain.specs.declared.scans.counter.CounterScale.{CounterScale}
 use Rattle.sun_chain.specs.declared.scans.counter.Shown.{Shown}
 use Rattle.sun_chain.proofs.ScanLemmas.Talking.{standing}
 
--- A client without buffered bytes, whose next transaction identifier is 1, has the state of a new
--- link to a device.
+-- A client without buffered bytes, whose next transaction identifier is 1, gives its link to a
+-- device the state `fresh` of a new link.
 begun_here : (bytes given : Option (List ℕ)) (open_bytes : List ℕ) (next : ℕ) → open_bytes ≡ [] → next ≡ 1 → standing bytes given open_bytes next ≡ fresh bytes given
 begun_here bytes given open_bytes next nothing first =
     ap (λ (o : List ℕ). standing bytes given o next) nothing ∙ ap (λ (n : ℕ). standing bytes given [] n) first
@@ -31,7 +31,7 @@ shows_read unit asked wanted span bytes given open_bytes next end words address 
       shows = shows;
     })
 
--- A counter's value is read from the words at the counter's addresses.
+-- If a read returns words, the reported value of a counter is the value decoded from these words.
 pub shows_words : (first : ℕ) (read words : List ℕ) (address : ℕ) (scale : CounterScale) (shown : Option Shown) → shown ≡ decode_counter first read address scale → read ≡ words → shown ≡ shown_by first (Some words) address scale
 shows_words first read words address scale shown shows same =
     shows ∙ ap (λ (all : List ℕ). decode_counter first all address scale) same

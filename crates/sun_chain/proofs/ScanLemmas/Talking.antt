@@ -100,7 +100,7 @@ garbles_kept a b c r kept garbles = record {
   bad = garbles.bad;
 }
 
--- All bytes that arrived over the link to the device during a read.
+-- The bytes `came` that arrived over the link to the device between the states `a` and `b`.
 pub record Heard (a b : Line) : Type 0 where
   pub came : List ℕ
   pub hears : Hears a.bytes b.bytes a.open_bytes b.open_bytes came
@@ -118,7 +118,7 @@ pub reads_heard : (unit : ℕ) (a b : Line) (span : Span) (words : Option (List 
 reads_heard unit a b span words (AtOnce all is tries) = tries_heard unit a b span words tries
 reads_heard unit a b span words (Again mid first next) = heard_both a mid b (tries_heard unit a mid span None first) (tries_heard unit mid b span words next)
 
--- Lemmas about the number of words in a response: it is the number requested.
+-- Lemmas that the number of words in a response is the number of requested registers.
 
 reply_full : (query : Query) (pdu : List ℕ) (quantity : ℕ) (words : List ℕ) → WantsRegisters query quantity → brought (Ok (brought_by (wanted_by query) pdu)) ≡ Some (words_spelled (drop 2 pdu))
     → brought (answer_in query pdu) ≡ Some words → length words ≡ quantity

@@ -17,7 +17,7 @@ pub record Ask : Type 0 where
   pub unit : ℕ
   pub span : Span
 
--- The value of a `Try`, which is one Modbus read request.
+-- A `Try` (one Modbus read request) as a value.
 abbrev pub ask_of : Try → Ask
 ask_of attempt = record { id = attempt.id; unit = attempt.unit; span = span_view attempt.span }
 
@@ -39,7 +39,7 @@ brought (Ok (Exception code)) = None
 brought (Err fault) = None
 
 -- The registers that a frame returns for the request, or `None` if another unit sent the frame or
--- it has no valid registers.
+-- the frame has no valid registers.
 abbrev pub words_in : Ask → Fields → Option (List ℕ)
 words_in ask fields =
     if fields.unit == ask.unit
@@ -47,7 +47,7 @@ words_in ask fields =
     else None
 
 -- The result of a request: the registers of the first frame with the request's transaction
--- identifier, possibly none. `None` if no frame has that identifier.
+-- identifier, or `Some None` if this frame has none. `None` if no frame has that identifier.
 abbrev pub settled : Ask → List (List ℕ) → Option (Option (List ℕ))
 settled ask frames =
     option_map (λ frame. words_in ask (fields_of frame)) (find (is_reply ask) frames)

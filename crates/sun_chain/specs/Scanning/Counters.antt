@@ -41,7 +41,7 @@ counter_span function address scale =
 abbrev pub word_at : (first : ℕ) → List ℕ → (address : ℕ) → ℕ
 word_at first words address = slice_index words (address - first)
 
--- True if the power of ten is from -3 to 3, which a counter may have.
+-- True if the power of ten is from -3 to 3, the range that is allowed for a counter.
 abbrev pub is_allowed : ℤ → Bool
 is_allowed sf = int_le (negsuc 2) sf && int_le sf (pos 3)
 

@@ -96,13 +96,13 @@ pub data Reads (unit : ℕ) (old new : Line) (span : Span) (words : Option (List
   Again : (mid : Line) → Tries unit old mid span None → Tries unit mid new span words
       → Reads unit old new span words
 
--- True if a call that sent one request returned the words of the response, or failed.
+-- States that, if a call that sends one request succeeds, its result is the words of the response.
 abbrev pub AnswersTry : {Z E : Type 0} → (unit : ℕ) → Result (Option (Vec ℕ Z)) E
     → (old new : Line) → Span → Type 0
 AnswersTry unit result old new span =
     IfOk result (λ answer. Tries unit old new span (words_seen answer))
 
--- True if a call that read registers returned the words of the read, or failed.
+-- States that, if a call that reads registers succeeds, its result is the words of the read.
 abbrev pub AnswersRead : {Z E : Type 0} → (unit : ℕ) → Result (Option (Vec ℕ Z)) E
     → (old new : Line) → Span → Type 0
 AnswersRead unit result old new span =

@@ -27,17 +27,17 @@ pub record Exchange : Type 0 where
 abbrev pub nothing : Words
 nothing address = None
 
--- The words received until now, by address, after a read from `address`. The words of the response
--- replace earlier words, and `None` changes nothing.
+-- The words of a device by address after a read from the given address, given the words before the
+-- read. The words of the response replace earlier words, and `None` changes nothing.
 abbrev pub append_answer : Words → ℕ → Option (List ℕ) → Words
 append_answer word address None = word
 append_answer word address (Some words) = add_words word address words
 
--- The words received until now, by address, after one more read.
+-- The words of a device by address after one more read, given the words before the read.
 abbrev pub words_after : Words → Exchange → Words
 words_after word exchange = append_answer word exchange.span.address exchange.words
 
--- The words received until now, by address, after a list of reads.
+-- The words of a device by address after a list of reads, given the words before these reads.
 abbrev pub words_reported : Words → List Exchange → Words
 words_reported word [] = word
 words_reported word (exchange ∷ exchanges) = words_reported (words_after word exchange) exchanges

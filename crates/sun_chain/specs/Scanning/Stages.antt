@@ -85,8 +85,8 @@ model_in word models address =
     (word (address + 1)))
     (word address)
 
--- The stage of a scan after the head (ID and length) of a model was not read. The scan reads the ID
--- alone, because the end of the chain may be the device's last register.
+-- The stage of a scan after a read of a model's head (ID and length) that returned no words. The
+-- scan reads the ID alone, because the end of the chain may be the device's last register.
 abbrev pub ending_at : (address : ℕ) → Stage
 ending_at address = if nat_lt address 65535 then Ending address else Over
 
@@ -97,8 +97,8 @@ after_head word models address None = ending_at address
 after_head word models address (Some id) =
     option_map_or (in_model (models + 1)) (model_in word models address) Over
 
--- The stage of a scan after the read that the given stage requires. `word` has the words that the
--- scan has received until now.
+-- The stage of a scan after the read that the given stage requires. The words are those that the
+-- scan has received until now, including those of this read.
 abbrev pub stage_after : Words → Stage → Stage
 stage_after word (Mark address) =
     if is_marked word address then Head (address + 2) 0 else other_mark address

@@ -120,9 +120,8 @@ fn decode_counter(first: u16, words: &[u16], address: u16, scale: CounterScale) 
 /// `address`, high word first, and the register of the scale. One read requests all of these
 /// registers, and is retried once if it returns no words.
 ///
-/// Returns `None` in these cases: - Both tries returned no words. - The scale's register is not
-/// implemented. - The scale is not from -3 to 3. - No single Modbus read can request all registers.
-/// In this case no request is sent.
+/// Returns `None` if both tries return no words, or if the scale is not implemented or not from -3
+/// to 3. If one Modbus read cannot request all registers, returns `None` without sending a request.
 pub fn read_counter<L: Link>(
     alloc: Global,
     link: &mut L,

@@ -62,8 +62,8 @@ fn answer(alloc: Global, frame: &Frame<'_>, attempt: &Try) -> Result<Answer, All
     }
 }
 
-// Returns the response to the request after one more frame. An earlier response has precedence over
-// the frame.
+// Returns the response to the request after one more frame arrived, or `None` if no response has
+// arrived yet. If `heard` is a response, the new frame does not replace it.
 fn settle_by_frame(
     alloc: Global,
     reader: &FrameReader,
@@ -98,8 +98,8 @@ fn settle_by_held_frame(
     Ok(Some(answer(alloc, &frame, attempt)?))
 }
 
-// Returns the response to the request after one more chunk of bytes. An earlier response has
-// precedence over the frames of the chunk.
+// Returns the response to the request after one more chunk of bytes arrived, or `None` if no
+// response has arrived yet. If `heard` is a response, the frames of the chunk do not replace it.
 fn hear_piece(
     alloc: Global,
     reader: &mut FrameReader,

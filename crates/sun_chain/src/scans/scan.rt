@@ -35,7 +35,7 @@ pub struct Scan {
 impl Scan {
     ghost use Rattle.sun_chain.specs.Scanning.Scans.{stage_of, words_of};
 
-    /// Creates a scan of a device that has read no words yet.
+    /// Creates a scan that has not read any words of the device yet.
     pub fn new(alloc: Global) -> Self
         ensures words { (address : ℕ) → words_of result address ≡ None }
         ensures stage { stage_of result ≡ begun }
@@ -185,9 +185,9 @@ fn after_head(image: &Image, address: u16, models: u8) -> Stage
     }
 }
 
-// Returns the stage of a scan after a model's head (ID and length) was not read. The next read is
-// of the ID alone, because the end of the chain may be the device's last register. At address 65535
-// the scan is over.
+// Returns the stage of a scan after a read of a model's head (ID and length) returned no words. The
+// next read is of the ID alone, because the end of the chain may be the device's last register. At
+// address 65535 the scan is over.
 fn ending_at(address: u16) -> Stage
     ensures stage { result ≡ ending_at address }
     ensures inside { IsTrue (fits result) }

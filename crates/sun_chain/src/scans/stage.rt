@@ -7,12 +7,12 @@ pub(crate) enum Stage {
     /// The scan next reads the `SunS` mark at this base address.
     Mark(u16),
     /// The scan next reads the ID and length of a model, or the end of the chain, at this address.
-    /// The second number counts the earlier models.
+    /// The second field is the number of earlier models.
     Head(u16, u8),
     /// The scan next reads the ID at this address alone, because it may end the chain.
     Ending(u16),
-    /// The scan next reads registers of a model, after this number of them was read. The last
-    /// number counts the models until now.
+    /// The scan next reads registers of this model. The second field is how many of the registers
+    /// were read, and the third is the number of models found so far.
     Registers(Model, u16, u8),
     /// The scan is over.
     Over,

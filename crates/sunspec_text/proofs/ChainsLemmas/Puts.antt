@@ -1,4 +1,4 @@
--- Lemmas on adding 16-bit words at an address to the image of a device's Modbus registers.
+-- Lemmas about adding 16-bit words at an address to the image of a device's Modbus registers.
 use Rattle.std.proofs.Common.{◌≡◌, ◌+◌, ◌≤◌, ℕ, List, Some, length, ◌∙◌, sym, ap, arith}
 use Rattle.std.proofs.lemmas.Grind.{common_steps}
 use Rattle.std.specs.Prelude.{option_and_then}

@@ -1,4 +1,4 @@
--- Lemmas on a writer that receives several texts, one after another.
+-- Lemmas about a writer that receives several texts, one after another.
 use Rattle.std.proofs.Common.{◌≡◌, ◌+◌, ◌<◌, ℕ, Option, Some, None, List, [], ◌++◌, length, take, get_or, sym, ◌∙◌, ap, append_assoc, append-nil, arith}
 use Rattle.std.specs.List.{flat_map}
 use Rattle.std.specs.Prelude.{Ok, Err, OnOk}
@@ -20,8 +20,8 @@ appends_nothing (Some xs) = sym (append-nil xs)
 one_more : {X : Type 0} (f : X → List ℕ) (xs : List X) (i : ℕ) (d : X) → i < length xs → flat_map f (take i xs) ++ f (get_or xs i d) ≡ flat_map f (take (i + 1) xs)
 one_more f xs i d inside = grind (arith, common_steps)
 
--- If a writer received the texts of the first `i` items, and then of item `i`, it received those of
--- the first `i + 1` items.
+-- A writer that received the texts of the first `i` items, and then of item `i`, has received the
+-- texts of the first `i + 1` items.
 pub appends_next : {X : Type 0} (f : X → List ℕ) (xs : List X) (i : ℕ) (d : X) (a b c : Option (List ℕ)) → i < length xs
     → Appends a b (flat_map f (take i xs)) → Appends b c (f (get_or xs i d)) → Appends a c (flat_map f (take (i + 1) xs))
 appends_next f xs i d a b c inside first second = appends_both a b c _ _ _ first second (one_more f xs i d inside)

@@ -56,8 +56,8 @@ place_text PastEnd = []
 place_text TooMany = []
 place_text Memory = []
 
--- The line that reports why a device has no valid chain of SunSpec models. It has the fault's
--- number, and for some faults an address.
+-- The line that reports why a device has no valid chain of SunSpec models. The line has the fault's
+-- numeric code, and for some faults an address.
 abbrev pub fault_line : ChainFault → List ℕ
 fault_line fault =
     codes "fault " ++ decimal (chain_fault_number fault) ++ place_text fault ++ codes "\n"

@@ -44,8 +44,8 @@ append_at None words = None
 append_at (Some address) None = None
 append_at (Some address) (Some words) = Some (record { address = address; words = words })
 
--- The content of a line `ADDRESS HEX`, split at its spaces. If the hexadecimal digits are missing,
--- the line describes no registers.
+-- The content of a line `ADDRESS HEX`, split at its spaces. A line without hexadecimal digits is
+-- valid and adds no registers.
 abbrev pub write_said : List (List ℕ) → Option Put
 write_said [] = None
 write_said (address ∷ []) = append_at (address_of address) (Some [])

@@ -1,5 +1,5 @@
--- Defines the output for the read plan of a point list. It lists the reads of the plan, and for
--- each point its read and its offset in that read.
+-- Defines the output for the read plan of a point list. The output lists the reads of the plan, and
+-- for each point its read and its offset in that read.
 use Rattle.std.specs.Prelude.{◌≡◌, ℕ, ◌+◌, List, [], ◌∷◌, ◌++◌, flat_map, map, Option, codes, slice_index_or}
 use Rattle.std.specs.Io.KnownBytes.{Appends}
 use Rattle.std.specs.Fmt.{decimal}

@@ -44,8 +44,9 @@ ListPrints word printed Fine =
 ListPrints word printed Refused = PrintsNoList word printed
 ListPrints word printed Failed = ⊥
 
--- States that the output is script lines that add a device to `sunreg`. They exist if and only if
--- the device has a point list, and their text is not specified.
+-- States the output of a scan for setup lines (script lines that add the device to `sunreg`). With
+-- status `Fine`, the device has a SunSpec chain, and the text of the lines is not specified. With
+-- `Refused`, the output explains why the device has no point list.
 abbrev pub SetupPrints : Words → (printed : List ℕ) → ExitStatus → Type 0
 SetupPrints word printed Fine = WithChain word (λ models. Unit {0})
 SetupPrints word printed Refused = PrintsNoList word printed

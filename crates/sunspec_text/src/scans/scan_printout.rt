@@ -31,8 +31,8 @@ pub enum ScanForm<'a> {
     Setup(Site<'a>),
 }
 
-/// Scans the device with a unit identifier over a new connection, and prints its chain of SunSpec
-/// models in the requested form.
+/// Scans the device with a unit identifier over a new connection, and prints the device's chain of
+/// SunSpec models in the requested form.
 ///
 /// Prints only `fault N` if the device has no valid chain, and only `row R fault N` if its list
 /// would have too many points. If the connection fails, ends or carries no Modbus, returns the

@@ -21,8 +21,8 @@ pub struct Site<'a> {
 struct Counter {
     point: &'static str,
     code: &'static str,
-    // The text before the line `register`, which is a comment mark for a counter of a single phase
-    // and otherwise empty.
+    // The text before the line `register`: a comment mark for a counter of a single phase,
+    // otherwise empty.
     front: &'static str,
 }
 
@@ -126,7 +126,7 @@ fn add_model(
     Ok(next)
 }
 
-// Returns the energy counter of a SunSpec point, or `None` if the point is no energy counter.
+// Returns the energy counter of a SunSpec point, or `None` if the point is not an energy counter.
 fn counter_of(point: &NamedPoint<'_>) -> Option<Counter> {
     COUNTERS.iter().copied().find(|counter| counter.point.as_bytes() == point.name().as_bytes())
 }

@@ -1,5 +1,5 @@
-//! Compares the tables and indexes of a schema with short forms, which list the program's tables
-//! and indexes. Each comparison is exact.
+//! Compares the tables and indexes of a schema with short forms that describe the tables and
+//! indexes of the program. Each comparison is exact.
 ghost use Rattle.std.specs.Prelude.{◌≡◌, ◌↔◌, [], map, IsTrue};
 ghost use Rattle.sqlite_value.specs.Keys.{plain};
 ghost use Rattle.table_audit.specs.SchemaForms.{column_of, reference_of, table_of, index_of, no_stamps};
@@ -75,7 +75,7 @@ fn are_references(references: &[Reference], forms: &[KeyForm]) -> bool
     }
 }
 
-// Compares the columns of a key with the expected columns.
+// Returns true if the columns of a key equal the expected columns.
 fn are_places(places: &Items<usize>, form: &[usize]) -> bool
     ensures { IsTrue result ↔ (places.now ≡ form.now) }
 {
@@ -101,7 +101,7 @@ fn is_plain(order: &Order) -> bool
     order.digits == 0
 }
 
-// Returns true if there is an ascending order for each UNIQUE of a table.
+// Returns true if the list `orders` has one plain (ascending) order for each UNIQUE of a table.
 fn are_plain(orders: &[Order], forms: &[&[usize]]) -> bool
     ensures { IsTrue result ↔ (orders.now ≡ map (λ form. plain) forms.now) }
 {
@@ -122,8 +122,8 @@ fn is_empty(checks: &Terms, stamps: &Stamps) -> bool
         && stamps.formats.is_empty()
 }
 
-/// Compares a table with the short form that describes it: its name, columns, keys and foreign
-/// keys.
+/// Returns true if a table equals the table that a short form describes: in its name, columns, keys
+/// and foreign keys.
 pub(crate) fn is_table(table: &Table, form: &TableForm) -> bool
     ensures { IsTrue result ↔ (table.now ≡ table_of form.now) }
 {
@@ -151,8 +151,8 @@ fn is_index(index: &Index, form: &IndexForm) -> bool
         && index.is_unique
 }
 
-/// Compares the indexes of a schema with the short forms that describe them, one by one in their
-/// order.
+/// Returns true if the indexes of a schema equal the indexes that the short forms describe, in the
+/// same order.
 pub(crate) fn are_indexes(indexes: &[Index], forms: &[IndexForm]) -> bool
     ensures { IsTrue result ↔ (indexes.now ≡ map index_of forms.now) }
 {

@@ -359,7 +359,8 @@ fn is_voids(table: &Table) -> bool
     )
 }
 
-/// Compares the tables of a schema with the program's tables. Names the first table that differs.
+/// Compares the tables of a schema with the program's tables. The error names the first table that
+/// differs.
 pub(crate) fn check_tables(tables: &[Table]) -> Result<(), SchemaFault>
     ensures same { OnOk result (tables.now ≡ books_schema.tables) }
     ensures other { IfErr result (λ fault. tables.now ≢ books_schema.tables) }

@@ -25,8 +25,8 @@ use Rattle.meter_journal.proofs.AuditLemmas.CarriedLemmas.Fitting.{carried_journ
 use Rattle.meter_journal.proofs.AuditLemmas.CarriedLemmas.Over.{well_carried}
 use Rattle.meter_journal.proofs.AuditLemmas.CarriedLemmas.Quarters.{carries_go_on}
 
--- The tables of a meter report the state after a list of entries that were recorded one after
--- another, none of them voided (cancelled).
+-- States that the tables of a meter report the state after a list of entries that were recorded one
+-- after another. None of these entries is voided (cancelled).
 record AreEntered (meter : Installed) (tables : Tables) : Type 0 where
   pub rows : List EntryRow
   pub fit : AreFitting meter (entering rows)
@@ -35,8 +35,8 @@ record AreEntered (meter : Installed) (tables : Tables) : Type 0 where
   pub intervals : tables.intervals ≡ interval_rows meter (entering rows)
   pub ended : tables.ended ≡ has_closing (entering rows)
 
--- Consistent tables of one database file report the state of a meter after a list of entries, none
--- of them voided (cancelled).
+-- If the tables of one database file are consistent, then they report a meter's state after a list
+-- of entries. None of these entries is voided (cancelled).
 fine_entered : (meter : Installed) (tables : Tables) → AreFine meter tables → AreEntered meter tables
 fine_entered meter tables fine =
     let alone = matching_rows_are_independent meter fine.rows fine.fit in
@@ -58,8 +58,8 @@ entering_both : (new old : List EntryRow) → entering new ++ entering old ≡ e
 entering_both [] old = refl
 entering_both (row ∷ new) old = ap (λ (lines : Journal). Entered row.kind row.entry ∷ lines) (entering_both new old)
 
--- If a meter's total energy after the last entry is within the limit, so is the energy after each
--- earlier entry, because no entry lowers the energy.
+-- If a meter's energy after the last entry is within the limit, its energy after each earlier entry
+-- is too. No entry lowers the energy.
 within : (meter : Installed) (lines : Journal) (rows : List EntryRow) → IsWellInstalled (carried meter lines)
     → AreFitting (carried meter lines) (entering rows)
     → total_in meter lines + total_in (carried meter lines) (entering rows) ≤ MAX_TOTAL
@@ -128,8 +128,8 @@ total_grows : (old : Tables) (later : List InFile) → old.total ≤ (entry_from
 total_grows old [] = omega arith
 total_grows old (new ∷ later) = omega (arith, total_grows (reported_by_both old new.tables) later)
 
--- The joint report of several database files about a meter is that of recorded entries, if the
--- meter continues in each file from the file before it.
+-- If a meter continues from each database file in the next, the joint report of all files shows the
+-- state after some recorded entries.
 all_entered : (meter : Installed) (so_far : Tables) (old : InFile) (later : List InFile) → IsWellInstalled meter
     → AreEntered meter so_far → so_far.last ≡ old.tables.last → so_far.ended ≡ old.tables.ended
     → old.meter.range ≡ meter.range → old.meter.ceiling ≡ meter.ceiling

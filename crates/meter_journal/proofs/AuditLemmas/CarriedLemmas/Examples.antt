@@ -56,8 +56,8 @@ old_fits = (
 carried_at_2500 : carried house old ≡ installed 2500 5300
 carried_at_2500 = refl
 
--- The meter's journal in the new database file: two readings, the first of them in the quarter hour
--- in which the files change.
+-- The meter's journal in the new database file: two readings. The first reading is in the quarter
+-- hour in which the new file began.
 abbrev new : Journal
 new = read 3600 5400 ∷ read 2600 5310 ∷ []
 
@@ -73,7 +73,7 @@ new_intervals : interval_rows (installed 2500 5300) new ≡ share 1800 19000 ∷
 unfolding unit_of
 new_intervals = refl
 
--- The quarter hour from 1800 s, in which the database files change, has the energy of both files.
+-- The quarter hour from 1800 s, in which the new database file began, has the energy of both files.
 intervals_of_both : interval_rows house (joined_journal old new) ≡ share 900 177777 ∷ share 1800 141223 ∷ share 2700 81000 ∷ []
 unfolding unit_of
 intervals_of_both = refl
@@ -82,14 +82,14 @@ total_of_both : total_in house (joined_journal old new) ≡ 400000
 unfolding unit_of
 total_of_both = refl
 
--- Entry 2 of the new file has sequence number 5 in the joined history of both files, because the
--- old file has entries 2 to 4.
+-- Entry 2 of the new file has sequence number 5 in the joined history, because the old file has
+-- entries 2 to 4.
 void_of_both : joined_journal old (Voided 2 ∷ new)
     ≡ Voided 5 ∷ read 3600 5400 ∷ read 2600 5310 ∷ Voided 4 ∷ read 2550 5305 ∷ read 2500 5300 ∷ read 1900 5200 ∷ []
 void_of_both = refl
 
--- A void (the cancellation of an entry) that the rules accept in the new database file is also
--- accepted in the joined history of both files.
+-- The rules accept a void (cancellation) of the new file's entry 2, both in the new file and in the
+-- joined history of both files.
 void_fits : AreFitting (installed 2500 5300) (Voided 2 ∷ new)
 unfolding unit_of
 void_fits = (
@@ -112,8 +112,8 @@ well_installed = record { raw = omega arith; scale = (grind (arith, ints), grind
 void_of_both_fits : AreFitting house (joined_journal old (Voided 2 ∷ new))
 void_of_both_fits = carried_journals_fit house old (Voided 2 ∷ new) well_installed old_fits refl void_fits stays_within
 
--- After an entry of the new file is voided (cancelled), one step leads from 2500 s to 3600 s in the
--- joined history of both files. Before, two steps had this energy.
+-- If an entry of the new file is voided (cancelled), one step from 2500 s to 3600 s replaces two
+-- steps in the joined history.
 void_intervals : interval_rows house (joined_journal old (Voided 2 ∷ new)) ≡ share 900 177777 ∷ share 1800 140404 ∷ share 2700 81819 ∷ []
 unfolding unit_of
 void_intervals = refl
@@ -148,7 +148,8 @@ three_total : reported_by_three.total ≡ 500000
 unfolding unit_of
 three_total = refl
 
--- One change of files lies within a quarter hour, and the other at the end of a quarter hour.
+-- The joint interval rows (energies by quarter hour) of three database files. The second file began
+-- within a quarter hour, and the third at the end of a quarter hour.
 three_intervals : reported_by_three.intervals ≡ share 900 177777 ∷ share 1800 141223 ∷ share 2700 81000 ∷ share 3600 100000 ∷ []
 unfolding unit_of
 three_intervals = refl

@@ -94,7 +94,8 @@ carried_tables_are_one law meter old new well h unended new_h =
       ended = ended_over count new old unended;
     }
 
--- The rules accept each row of the joined tables of an old and a new database file.
+-- Lemmas: if the rules accept the rows of each of two database files, and the energy stays within
+-- its limit, they accept the joined rows.
 
 come_over : (meter : Installed) (es old : List Entry) (stands : Bool) (k : EntryKind) (e : Entry) → ((last_after (left_by meter old) es).raw < meter.range)
     → HasRoom meter es old e → MayCome (left_by meter old) es stands k e → MayCome meter (es ++ old) stands k e

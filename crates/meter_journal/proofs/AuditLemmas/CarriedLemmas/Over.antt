@@ -1,4 +1,4 @@
--- Lemmas on the rows and entries of a meter's journal that continues in another file.
+-- Lemmas on the rows and entries of a meter's journal that continues in another database file.
 use Rattle.std.proofs.Common.{◌≡◌, ℕ, ◌+◌, ◌==◌, true, false, ◌&&◌, List, [], ◌∷◌, ◌++◌, map, length, Some, refl, sym, ap, subst, ◌∙◌, inl, inr, arith, eq-eqb}
 use Rattle.std.proofs.lemmas.Bool.{cases_Bool, cond-true, cond-false, eqb-true}
 use Rattle.std.proofs.lemmas.Bool.Decides.{nat_tests}
@@ -16,7 +16,7 @@ use Rattle.meter_journal.proofs.Keeping.{entries_standing, entries_struck, mappe
 use Rattle.meter_journal.proofs.Voiding.{whole_with}
 use Rattle.meter_journal.specs.Audit.Carried.{carried, moved_line, moved_row}
 
--- The meter as it is installed in the database file that follows the entries `old`.
+-- The meter as it is installed in the new database file, after the entries `old` of the old file.
 abbrev pub left_by : Installed → List Entry → Installed
 left_by meter old = record { range = meter.range; ceiling = meter.ceiling; opening = last_after meter old }
 

@@ -57,8 +57,8 @@ three x y z zs true false at next = cond-false _ _ _ (through x.start y.start z.
 three x y z zs false true off next = ap (λ rs. x ∷ rs) (cond-true _ _ _ next) ∙ sym (cond-false _ _ _ off)
 three x y z zs false false off next = ap (λ rs. x ∷ rs) (cond-false _ _ _ next) ∙ sym (cond-false _ _ _ off)
 
--- In a list of interval rows, merging the first two rows and merging quarter-hour energies into the
--- last row can be done in either order.
+-- Two merges in a list of interval rows can be done in either order: that of the first two rows,
+-- and that of quarter-hour energies into the last row.
 longer : (x y next : Share) (ys zs : List Share) (b : Bool) → x.start == y.start ≡ b
     → with_shares (cond b (one_of x y ∷ next ∷ ys) (x ∷ y ∷ next ∷ ys)) zs ≡ joined x (y ∷ with_shares (next ∷ ys) zs)
 longer x y next ys zs true at = sym (cond-true _ _ _ at)
@@ -92,15 +92,15 @@ rows_of_both (step ∷ steps) old =
 abbrev pub passing : (ℕ → Bool) → List Share → List Share
 passing f rows = filter (λ (row : Share). f row.start) rows
 
--- The rows of both lists whose starts pass the test have the same energy and the same set of
--- starts.
+-- States that the rows of two lists whose starts pass the test `f` have the same total energy and
+-- the same set of starts.
 pub record CountTheSame (f : ℕ → Bool) (xs ys : List Share) : Type 0 where
   pub energy : energy_of (passing f xs) ≡ energy_of (passing f ys)
   pub any : (p : ℕ → Bool) → list_any p (starts_of (passing f xs)) ≡ list_any p (starts_of (passing f ys))
   pub count : distinct_count (starts_of (passing f xs)) ≡ distinct_count (starts_of (passing f ys))
 
--- Two lists of interval rows (energies of quarter hours) have the same energy and the same set of
--- starts.
+-- States that two lists of interval rows (energies of quarter hours) have the same total energy and
+-- the same set of starts.
 abbrev Counts : (xs ys : List Share) → Type 0
 Counts xs ys = (energy_of xs ≡ energy_of ys)
     × ((p : ℕ → Bool) → list_any p (starts_of xs) ≡ list_any p (starts_of ys))
@@ -115,8 +115,8 @@ counted f xs ys h = record { energy = h.0; any = h.1; count = h.2 }
 count_same : (f : ℕ → Bool) (xs : List Share) → CountTheSame f xs xs
 count_same f xs = record { energy = refl; any = λ p. refl; count = refl }
 
--- If two lists of interval rows (energies by quarter hour) have the same energy and starts,
--- prepending the same row to both preserves this equality.
+-- If two lists of interval rows (energies by quarter hour) have equal total energies and equal
+-- starts, prepending one row to both preserves this.
 one_before : (row : Share) (xs ys : List Share) → Counts xs ys → Counts (row ∷ xs) (row ∷ ys)
 one_before row xs ys h =
     let mwh : Share → ℕ = λ r. r.mwh in (

@@ -1,5 +1,5 @@
--- Lines of a meter's journal that the rules accept in the old database file are also accepted in a
--- new file in which the meter continues.
+-- Lemmas: if the rules accept lines of a meter's journal in the old database file, they accept them
+-- in a new file that continues the meter.
 use Rattle.std.proofs.Common.{◌≡◌, ◌≢◌, ℕ, ◌+◌, ◌-◌, ◌<◌, ◌≤◌, ◌==◌, Bool, true, false, cond, List, [], ◌∷◌, ◌++◌, map, length, Option, Some, None, Ok, refl, sym, ap, subst, ◌∙◌, inl, inr, arith}
 use Rattle.std.specs.List.{find}
 use Rattle.std.specs.Option.{option_map, option_or}
@@ -36,8 +36,8 @@ use Rattle.meter_journal.specs.Audit.Carried.{carried, moved_line, moved_row, Al
 use Rattle.meter_journal.proofs.AuditLemmas.CarriedLemmas.Fitting.{terms_of, before_full, moved_around, next_moved}
 use Rattle.meter_journal.proofs.AuditLemmas.CarriedLemmas.Over.{left_by, last_over, total_over, entries_over, moved_same, moved_other, rows_over, entries_of_both, well_carried}
 
--- The joined history of a meter in an old and a new database file has at least the energy of the
--- new file.
+-- States that the joined history of a meter in an old and a new database file has at least the
+-- energy of the new file.
 abbrev HasMore : Installed → (es old : List Entry) → Type 0
 HasMore meter es old = total_after (left_by meter old) es ≤ total_after meter (es ++ old)
 
@@ -130,7 +130,8 @@ held_there meter es old reading c other h =
     ∙ held_there_too meter.range l reading (find (test less) before_full) (test less cause.TotalFull) (test all cause.TotalFull) c other
     (sym (ap (judged meter.range l reading) (parts all)) ∙ is)
 
--- No row has the sequence number `place` if all rows have smaller sequence numbers.
+-- If all rows of a list have sequence numbers below `place`, then no row of the list has the number
+-- `place`.
 none_there : (place : ℕ) (rows : List EntryRow) → AreNumbered rows → length rows + 2 ≤ place → row_at place rows ≡ None
 none_there place [] h le = refl
 none_there place (row ∷ rows) h le =
@@ -178,8 +179,9 @@ next_there meter count before old (Some n) more h =
     plausible_there meter (entries_in before) (entries_in old) n.entry more
     (subst (λ (es : List Entry). IsPlausibleNext meter es n.entry) (entries_over count before old) h)
 
--- The lines `later` are those of the meter's journal in the new database file, with their sequence
--- numbers raised by the number of old entries.
+-- States that the lines `later` are the renumbered lines of a journal in the new database file that
+-- the rules accept. The sequence numbers in voids (cancellations) are raised by `count`, the number
+-- of old entries.
 record IsMoved (meter : Installed) (count : ℕ) (lines later : Journal) : Type 0 where
   more : Journal
   moved : map (moved_line count) more ≡ later

@@ -27,8 +27,8 @@ one_more name xs x e = values_of-append name xs (x ∷ []) ∙ ap (λ vs. values
 pub none_more : (name : List ℕ) (xs : List (List ℕ × List ℕ)) (x : List ℕ × List ℕ) → same_name x.0 name ≡ false → values_of name (xs ++ x ∷ []) ≡ values_of name xs
 none_more name xs x e = values_of-append name xs (x ∷ []) ∙ ap (λ vs. values_of name xs ++ vs) (cond-false _ _ _ e) ∙ append-nil (values_of name xs)
 
--- The next header of a request either has the requested name and adds its value to the values
--- found, or has another name and adds nothing.
+-- If the next header of a request has the requested name, then the header's value is appended to
+-- the values found so far.
 pub more_given : (name bytes : List ℕ) (headers : List HeaderSpan) (i : ℕ) (d : HeaderSpan) (named value : List ℕ) → i < length headers
     → named ≡ span_bytes bytes (get_or headers i d).name → same_name named name ≡ true → value ≡ span_bytes bytes (get_or headers i d).value
     → values_of name (map (header_bytes bytes) (take (i + 1) headers)) ≡ values_of name (map (header_bytes bytes) (take i headers)) ++ value ∷ []

@@ -40,8 +40,8 @@ fails_after Read old mid new r s t came on goes_on = (came-kept old mid new r s 
 fails_after Short old mid new r s t came on goes_on = (came-kept old mid new r s t came on.0 on.1, subst IsOpenHead (sym on.0) goes_on, on.2)
 fails_after TurnsUsed old mid new r s t came on goes_on = (came-kept old mid new r s t came on.0 on.1, subst IsOpenHead (sym on.0) goes_on, tt)
 
--- If the received bytes were incomplete before the last read, as the condition `GoesOn` defines,
--- then that read was necessary.
+-- If the received bytes were incomplete before the last read (as the condition `GoesOn` defines),
+-- then the last read was necessary.
 pub stops_after : (GoesOn : List ℕ → Type 0) (old mid new : List ℕ) (last : Option LastTake) (earlier chunk : List ℕ) → mid ≡ old ++ earlier → GoesOn mid
     → new ≡ mid ++ chunk → length new ≡ length mid + brought last → TakesWhatLacks GoesOn old new last
 stops_after GoesOn old mid new last earlier chunk came goes_on is size = record {

@@ -1,4 +1,4 @@
--- Lemmas on a buffer that consecutive reads of a client's connection fill.
+-- Lemmas on a buffer that is filled by consecutive reads of a client's connection.
 use Rattle.std.proofs.Common.{◌≡◌, ◌∙◌, ℕ, ◌+◌, ◌≤◌, List, ◌++◌, length, take, refl, sym, ap, subst, arith}
 use Rattle.std.proofs.lemmas.List.{length-take-le, take-take}
 use Rattle.std.proofs.lemmas.Slice.{take-put_mid}

@@ -42,8 +42,8 @@ Sends-buffered base a buffered kept old new all more same is so_far = record {
   whole = λ w. ap (λ t. t ++ more) (so_far.whole (sym same ∙ w)) ∙ sym is;
 }
 
--- If a write to the client's connection has failed, then the writer may drop further bytes. The
--- client still has a prefix of the response.
+-- If a write to the client's connection has failed, then the writer can drop further bytes. The
+-- bytes that the client received are still a prefix of the response.
 pub Sends-lost : (base a : Option (List ℕ)) (buffered : List ℕ) (old : Bool) (all more : List ℕ) → old ≡ true → Sends base a buffered old all → Sends base a buffered old (all ++ more)
 Sends-lost base a buffered old all more failed so_far = record {
   sent = so_far.sent;
@@ -61,8 +61,8 @@ Sends-flushed result base a b buffered kept old new all works failed none so_far
     subst (Sends base b kept new) (append-nil all)
     (Sends-given result base a b buffered kept old new all [] works failed none so_far buffered (append-nil buffered) gives)
 
--- After two consecutive calls of a response writer, at most one failed write is counted, because no
--- write follows a failed write.
+-- Two consecutive calls of a response writer count at most one failed write in all, because the
+-- writer makes no write after a failed write.
 risen_twice : (a b c : Bool) (count : ℕ) → (a ≡ true → b ≡ true) → (b ≡ true → c ≡ true) → risen (c && not b) (risen (b && not a) count) ≡ risen (c && not a) count
 risen_twice true true true count ab bc = refl
 risen_twice true true false count ab bc = refl
@@ -111,8 +111,8 @@ HasPut-none base given buffered failed same none = record {
   whole = λ _. sym none;
 }
 
--- If a call changes nothing, then it satisfies `OnlyGives`: the writer has the same connection,
--- reads nothing, and counts no new failure.
+-- A call of a response writer that changes nothing satisfies `OnlyGives`: the writer has the same
+-- connection, reads nothing, and counts no new failure.
 OnlyGives-none : (x : Outgoing) → OnlyGives x x
 OnlyGives-none x = record {
   link = refl;

@@ -97,8 +97,8 @@ lacks table old mid new seen r s t at size first head same is came few = record 
   body = subst (λ n. length new < at.len + n) (size_stays table mid new seen s t at size same is head came) few;
 }
 
--- If received bytes have a complete request head, a part of the request's body is missing until all
--- bytes of the body have arrived.
+-- If received bytes have a complete request head, but fewer bytes follow than the request's body
+-- has, then they lack a part of the body.
 lacks_still : (table : Table) (mid earlier seen : List ℕ) (at : Head) (size : ℕ) → seen ≡ mid → size ≡ body_size table (start_at seen at) → IsHeadAt mid at
     → length (mid ++ earlier) < at.len + size → LacksBody table (mid ++ earlier)
 lacks_still table mid earlier seen at size same is head few =
@@ -116,8 +116,8 @@ stops_at_head table old new was now (inr some) = inr record {
   size = some.size;
 }
 
--- If the buffer makes no read after a complete head or a complete body, it makes none after a
--- complete request.
+-- Suppose that the buffer makes no read after the request's head is complete, and none after the
+-- body is complete. Then it makes none after the complete request.
 pub stops_at_body : (table : Table) (old mid new : Inbox) (seen chunk : List ℕ) (was then now : Option LastTake) (at : Head) (size : ℕ) → bytes_in mid ≡ bytes_in old ++ chunk → IsHeadAt (bytes_in mid) at
     → seen ≡ bytes_in mid → size ≡ body_size table (start_at seen at) → StopsAtOnce IsOpenHead old mid was then → StopsAtOnce (λ bytes. length bytes < at.len + size) mid new then now
     → StopsAtOnce (IsUnfinished table) old new was now

@@ -31,7 +31,8 @@ add_register d = command.AddRegister (record {
   scale = scale_in d;
 })
 
--- The command that installs a meter at an accounting register (a named energy counter).
+-- The command that installs a meter and assigns it to an accounting register (a named energy
+-- counter).
 abbrev pub install : Option (List ℕ) → Data → Command
 install name d = command.Install (record {
   register = name;
@@ -42,8 +43,8 @@ install name d = command.Install (record {
   range = or_full_range (optional_in (codes "range") d);
 })
 
--- The command that closes the meter at an accounting register (a named energy counter), and
--- installs another meter there.
+-- The command that closes the open meter of an accounting register (a named energy counter), and
+-- assigns another meter to the register.
 abbrev pub exchange : Option (List ℕ) → Data → Command
 exchange name d = command.Exchange (record {
   register = name;

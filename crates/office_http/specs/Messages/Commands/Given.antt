@@ -30,7 +30,7 @@ abbrev pub reported : Result Command BodyFault → Result Command CommandFault
 reported (Ok c) = Ok c
 reported (Err fault) = Err (fault_reported fault)
 
--- True if the bytes are a JSON text, and its value contains this command or has this fault.
+-- True if the bytes are a JSON text, and the result is the command or the fault in its value.
 pub record GivesJson (at : Route) (name : Option (List ℕ)) (bytes : List ℕ)
     (given : Result Command CommandFault) : Type 0 where
   pub value : Data
@@ -42,23 +42,23 @@ pub record IsNoJson (bytes : List ℕ) (given : Result Command CommandFault) : T
   pub none : (d : Data) → IsJson bytes d → ⊥
   pub gives : given ≡ Err Malformed
 
--- True if the result is that of parsing a body that must be JSON. For any body, the result may also
--- be `Memory` (out of memory).
+-- True if the result is possible for parsing these bytes as a JSON body. The result `Memory` (out
+-- of memory) is possible for any bytes.
 abbrev pub IsBody : Route → Option (List ℕ) → (bytes : List ℕ) → Result Command CommandFault
     → Type 0
 IsBody at name bytes given =
     GivesJson at name bytes given ⊎ IsNoJson bytes given ⊎ (given ≡ Err Memory)
 
--- True if the bytes are a point list: CSV rows with the registers to poll. The command stores the
--- list with its reading plan, which is the fewest Modbus reads that cover the list.
+-- True if the bytes are a point list (CSV rows with the registers to poll), and the command stores
+-- this list with its reading plan. The plan is the fewest Modbus reads that cover the list.
 pub record GivesList (name : Option (List ℕ)) (bytes : List ℕ) (c : Command) : Type 0 where
   pub list : Planned
   pub spelled : SpellsList bytes list.points
   pub planned : IsPlanned list
   pub is : c ≡ PutList (record { device = name; list = list })
 
--- True if the result is that of parsing a body that must be a point list (CSV rows with the
--- registers to poll).
+-- True if the result is possible for parsing these bytes as a point list (CSV rows with the
+-- registers to poll). The result `Memory` (out of memory) is possible for any bytes.
 abbrev pub IsListBody : Option (List ℕ) → (bytes : List ℕ) → Result Command CommandFault → Type 0
 IsListBody name bytes (Ok c) = GivesList name bytes c
 IsListBody name bytes (Err Malformed) = ⊥
@@ -66,8 +66,8 @@ IsListBody name bytes (Err Negative) = ⊥
 IsListBody name bytes (Err (Faulty rows)) = AreFaults (list_faults (rows_read bytes)) rows
 IsListBody name bytes (Err Memory) = Unit {0}
 
--- True if the result is that of parsing the body of a request with this route. If the result is
--- `Memory`, memory ran out, and the body is arbitrary.
+-- True if the result is possible for parsing these bytes as the body of a request with this route.
+-- The result `Memory` (out of memory) is possible for any bytes.
 abbrev pub Gives : Route → Option (List ℕ) → (bytes : List ℕ) → Result Command CommandFault → Type 0
 Gives route.List name bytes given = IsListBody name bytes given
 Gives route.Devices name bytes given = IsBody route.Devices name bytes given

@@ -1,5 +1,5 @@
--- The head of an HTTP request within limits of size and of headers, and bytes without a head within
--- these limits.
+-- Defines when bytes begin with the head of an HTTP request that is within the limits of size and
+-- number of headers.
 use Rattle.std.specs.Prelude.{◌≡◌, ◌≤◌, ◌<◌, ◌⊎◌, ◌||◌, ℕ, nat_lt, Bool, true, false, not, List, length, take, drop, All}
 use Rattle.httparse.specs.Grammar.{ReadsRequest, RequestHead}
 use Rattle.httparse.specs.Spans.{AreFieldsAt, IsHeaderWithin, IsWithin, span_bytes}

@@ -9,7 +9,8 @@ use Rattle.office_http.specs.declared.messages.reading.inbox.Inbox.{Inbox}
 use Rattle.office_http.specs.declared.messages.reading.inbox.TakeFault.{TakeFault}
 use Rattle.office_http.specs.declared.messages.reading.inbox.TakeFault.TheVariants.{Read, Short, TurnsUsed}
 
--- True if the input has no bytes left after a read that failed with Short (the input ended early).
+-- States that if reading failed with Short (the input ended early), then the input has no bytes
+-- left. States nothing for other faults.
 abbrev pub EndsAt : TakeFault → Option (List ℕ) → Type 0
 EndsAt Read after = Unit {0}
 EndsAt Short after = IsAtEnd after
@@ -31,8 +32,8 @@ ReadsUpTo count (Ok x) old new before after = Came old new before after × (coun
 ReadsUpTo count (Err fault) old new before after =
     Came old new before after × (length new < count) × EndsAt fault after
 
--- True if the buffer made no read: its count of reads and the last read of the client's connection
--- are unchanged.
+-- True if the buffer made no read: its count of reads, its bytes, and the last read of the client's
+-- connection are unchanged.
 pub record TakesNothing (old new : Inbox) (was now : Option LastTake) : Type 0 where
   pub takes : new.takes ≡ old.takes
   pub bytes : bytes_in new ≡ bytes_in old

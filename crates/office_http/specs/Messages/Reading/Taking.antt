@@ -17,8 +17,8 @@ bytes_in inbox = take inbox.filled inbox.room.now
 abbrev pub room_of : Inbox → ℕ
 room_of inbox = length inbox.room.now
 
--- True if the connection's count of reads is `base` plus the reads of this buffer, limited to 2^64
--- - 1.
+-- True if the connection's count of reads is `base` plus the reads of this buffer. The count
+-- saturates at 2^64 - 1.
 abbrev pub IsCounted : ℕ → ℕ → Inbox → Type 0
 IsCounted base taken inbox = taken ≡ min (base + inbox.takes) (2 ^ 64 - 1)
 
@@ -37,8 +37,8 @@ pub record Came (old new : List ℕ) (before after : Option (List ℕ)) : Type 0
   pub bytes : new ≡ old ++ chunk
   pub consumed : Consumes before after chunk
 
--- States the effect of one more read from the client's connection. A failed read adds no bytes, and
--- the fault Short means that the input has ended.
+-- States the effect of reading once more from the client's connection. If reading fails, the buffer
+-- gets no bytes. The fault Short means that the input has ended.
 abbrev pub TakesOn : {X : Type 0} → Result X TakeFault → List ℕ → List ℕ → Option (List ℕ)
     → Option (List ℕ) → Type 0
 TakesOn (Ok x) old new before after = Came old new before after
@@ -53,8 +53,8 @@ is_read_fault (Err Read) = true
 is_read_fault (Err Short) = false
 is_read_fault (Err TurnsUsed) = false
 
--- True if the connection's last read failed after the fault Read, and reported the end of the input
--- after Short.
+-- States that after the fault Read, the connection's last read failed. States that after Short, the
+-- last read reported the end of the input.
 abbrev pub EndedBy : {X : Type 0} → Result X TakeFault → Option LastTake → Type 0
 EndedBy (Ok x) last = Unit {0}
 EndedBy (Err Read) last = option_map (λ t. t.answer) last ≡ Some (Err (record {}))

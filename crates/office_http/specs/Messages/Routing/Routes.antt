@@ -9,7 +9,7 @@ use Rattle.matchit.specs.declared.error.InsertError.{InsertError}
 use Rattle.office_http.specs.declared.messages.routing.routes.Route.{Route}
 use Rattle.office_http.specs.declared.messages.routing.routes.Route.TheVariants.{Devices, List as ListRoute, Registers, Install, Exchange, Reset, Rescale, Manual, Close, Void, Days, Meter, Intervals, Poll}
 
--- The table of routes in an HTTP router.
+-- The type of an HTTP router's table of routes.
 abbrev pub Table : Type 0
 Table = RowsOf (RouteOf Route)
 

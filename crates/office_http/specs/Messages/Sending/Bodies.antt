@@ -1,9 +1,9 @@
--- The JSON bodies of responses that report a refusal or another error by number.
+-- The JSON bodies of responses that report a refusal or another error by a numeric code.
 use Rattle.std.specs.Prelude.{ℕ, List, ◌++◌, codes, decimal}
 use Rattle.office_http.specs.Messages.Status.Statuses.{number_of_status}
 use Rattle.office_http.specs.declared.messages.status.Status.{Status}
 
--- The JSON body that reports a refusal, by the refusal's number.
+-- The JSON body that reports a refusal by the numeric code of its reason.
 abbrev pub refused_text : ℕ → List ℕ
 refused_text number = codes "{\"refused\":" ++ decimal number ++ codes "}"
 

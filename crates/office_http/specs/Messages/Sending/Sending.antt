@@ -5,8 +5,8 @@ use base.Fml.{GName}
 use Rattle.mb_wire.specs.Links.{risen}
 use Rattle.mb_wire.specs.declared.link.LastTake.{LastTake}
 
--- True if the client's connection has received a prefix of `all` since `base`. Without a failed
--- write, the write buffer has exactly the remaining bytes.
+-- True if the client's connection, which had received `base` before the response, has now received
+-- a prefix of the response `all`. If no write failed, the write buffer has exactly the rest.
 pub record Sends (base given : Option (List ℕ)) (buffered : List ℕ) (failed : Bool) (all : List ℕ) :
     Type 0 where
   pub sent : List ℕ
@@ -47,8 +47,8 @@ pub record Outgoing : Type 0 where
   pub buffered : List ℕ
   pub failed : Bool
 
--- True if `all` is the response that was sent since the client's connection had received `base`.
--- Some bytes of the response may be in the write buffer.
+-- True if `all` are the bytes of the response so far, which the client's connection received after
+-- the bytes `base`. The last bytes may still be in the write buffer.
 abbrev pub HasPut : Option (List ℕ) → Outgoing → List ℕ → Type 0
 HasPut base out all = Sends base out.given out.buffered out.failed all
 

@@ -3,7 +3,7 @@ use Rattle.std.specs.Prelude.{ℕ, List, codes}
 use Rattle.office_http.specs.declared.messages.status.Status.{Status}
 use Rattle.office_http.specs.declared.messages.status.Status.TheVariants.{Fine, BadRequest, Forbidden, NotFound, MethodNotAllowed, Conflict, LengthRequired, ContentTooLarge, Misdirected, Unprocessable, FieldsTooLarge, Unavailable}
 
--- The number of an HTTP status.
+-- The three-digit code of an HTTP status.
 abbrev pub number_of_status : Status → ℕ
 number_of_status Fine = 200
 number_of_status BadRequest = 400

@@ -17,8 +17,8 @@ use Rattle.office_http.specs.declared.messages.ask.Ask.{Ask}
 use Rattle.office_http.specs.declared.messages.status.Status.{Status}
 use Rattle.office_http.specs.declared.messages.status.Status.TheVariants.{BadRequest, FieldsTooLarge}
 
--- The size of a request's body in bytes: 0 if a test of the head failed, for a query, or without
--- Content-Length.
+-- The size of a request's body in bytes: the Content-Length of a command whose head passes all
+-- tests, otherwise 0.
 abbrev pub size_unless : Option Status → Bool → Option ℕ → ℕ
 size_unless (Some status) question size = 0
 size_unless None true size = 0
@@ -59,7 +59,8 @@ Holds table bytes (Whole at) = IsWhole table bytes at
 abbrev pub IsReadWhole : Table → List ℕ → Type 0
 IsReadWhole table bytes = (head_state : HeadState) × Holds table bytes head_state
 
--- True if the buffer has a complete request or an invalid head, or if reading failed before that.
+-- True if the buffer has a complete request or an invalid head, or if reading failed while the
+-- buffer had neither of them.
 abbrev pub ReadsRequest : Table → Result HeadState TakeFault → List ℕ → List ℕ → Option (List ℕ)
     → Option (List ℕ) → Type 0
 ReadsRequest table (Ok head_state) old new before after =
@@ -80,8 +81,8 @@ TestsRequest table bytes (Whole at) result = TestsHead table (start_at bytes at)
 abbrev pub body_of : Table → List ℕ → Head → List ℕ
 body_of table bytes at = take (body_size table (start_at bytes at)) (drop at.len bytes)
 
--- True if the bytes begin with a complete request with this body. Its head is within the limits and
--- has these parts.
+-- True if the bytes begin with a complete request that has this body, and a head within the limits
+-- with this method, target and headers.
 pub record HoldsRequest (table : Table) (bytes : List ℕ) (start : Start) (body : List ℕ) : Type 0
   where
     pub head : RequestHead

@@ -1,4 +1,4 @@
-//! Parses the commands for the meter at an accounting register (a named energy counter), from JSON
+//! Parses the commands for the meter of an accounting register (a named energy counter), from JSON
 //! bodies.
 ghost use Rattle.std.specs.Prelude.{◌≡◌};
 ghost use Rattle.serde_json.specs.View.{view};
@@ -11,7 +11,8 @@ use crate::messages::commands::json::{
 use crate::messages::commands::values::{name, or_full_range};
 use office_events::{Close, Command, Exchange, Install, Manual, Name, Rescale, Reset, VoidEntry};
 
-// Parses the command that installs a meter at an accounting register (a named energy counter).
+// Parses the command that installs a meter and assigns it to an accounting register (a named energy
+// counter).
 pub(crate) fn install(register: Option<Name>, body: &Body) -> Result<Command, BodyFault>
     ensures { result ≡ command_of route.Install register (view body.now) }
 {
@@ -26,7 +27,7 @@ pub(crate) fn install(register: Option<Name>, body: &Body) -> Result<Command, Bo
     }))
 }
 
-// Parses the command that closes a meter and installs another meter at the same accounting register
+// Parses the command that closes a meter and assigns another meter to the same accounting register
 // (energy counter).
 pub(crate) fn exchange(register: Option<Name>, body: &Body) -> Result<Command, BodyFault>
     ensures { result ≡ command_of route.Exchange register (view body.now) }

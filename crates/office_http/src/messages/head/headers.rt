@@ -13,7 +13,7 @@ pub enum Given<'b> {
     Often,
 }
 
-/// Returns whether two header names are equal. Upper and lower case are equal.
+/// Returns whether two header names are equal. The comparison ignores upper and lower case.
 pub(crate) fn same_name(one: &[u8], other: &[u8]) -> bool
     ensures { result ≡ same_name one.now other.now }
 {
@@ -32,8 +32,8 @@ fn one_more<'b>(found: Given<'b>, value: &'b [u8]) -> Given<'b>
     }
 }
 
-/// Returns how often a request has the header `name`, and its value. Upper and lower case in the
-/// name are equal.
+/// Returns how often a request has the header `name`, and the header's value. The lookup ignores
+/// upper and lower case in the name.
 pub fn header_value<'b>(bytes: &'b [u8], headers: &[HeaderSpan], name: &[u8]) -> Given<'b>
     requires within { All (IsHeaderWithin (length bytes.now)) headers.now }
     ensures { Gives result (values_of name.now (map (header_bytes bytes.now) headers.now)) }

@@ -2,8 +2,8 @@
 ghost use Rattle.std.specs.Prelude.{◌≡◌, length};
 ghost use Rattle.office_http.specs.Messages.Head.Lines.{has_head_end, is_empty_line, lines_of_head};
 
-// Returns whether a line is empty. The text of the line has no line feed, but may end with a
-// carriage return.
+// Returns whether a line is empty: it has no bytes, or only a carriage return. The line feed is not
+// a part of `line`.
 fn is_empty_line(line: &[u8]) -> bool
     ensures { result ≡ is_empty_line line.now }
 {

@@ -69,7 +69,7 @@ impl<'a> Inbox<'a> {
     }
 
     /// Reads once more from the client's connection, unless the buffer has made 100,000 reads. A
-    /// read that times out counts and adds no bytes.
+    /// read that times out counts as a read and adds no bytes.
     pub fn take_more<L: Link>(&mut self, link: &mut L) -> Result<(), TakeFault>
         requires { length (bytes_in self.old) < room_of self.old }
         ensures takes_on { TakesOn result (bytes_in self.old) (bytes_in self.new)

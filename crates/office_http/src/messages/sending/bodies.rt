@@ -1,4 +1,4 @@
-//! Formats the JSON bodies of responses that report a refusal or another error by number.
+//! Formats the JSON bodies of responses that report a refusal or another error by a numeric code.
 ghost use Rattle.std.specs.Prelude.{◌≡◌};
 ghost use Rattle.office_http.specs.Messages.Sending.Bodies.{fault_text, refused_text};
 
@@ -7,7 +7,7 @@ use crate::messages::Status;
 /// A text of at most 8,192 bytes, for the body of a response.
 pub type Text = script_text::Text<8192>;
 
-/// Formats the JSON body of a response that reports a refusal by its number.
+/// Formats the JSON body of a response that reports a refusal by the numeric code of its reason.
 pub fn refused_body(number: u8) -> Text
     ensures { result ≡ refused_text number }
 {

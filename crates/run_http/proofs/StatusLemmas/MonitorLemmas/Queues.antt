@@ -49,7 +49,8 @@ taken_there f xs place d inside = ap taken_in (sym (seen_at f xs place d inside)
 pub taken_nowhere : {X : Type 0} (f : X → List ℕ) (xs : List X) (place : ℕ) → length xs ≤ place → [] ≡ taken_at place (map f xs)
 taken_nowhere f xs place past = ap taken_in (sym (seen_past f xs place past))
 
--- If the send queue of one device is emptied, then the queues of all other devices are unchanged.
+-- If the send queue of the device with the index `place` is emptied, then the queues of all other
+-- devices are unchanged.
 pub left_there : {X : Type 0} (f : X → List ℕ) (xs : List X) (place : ℕ) (x : X) → f x ≡ [] → map f (set xs place x) ≡ set (map f xs) place []
 left_there f xs place x is = map-set f xs place x ∙ ap (set (map f xs) place) is
 

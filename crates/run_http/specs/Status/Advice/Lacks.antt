@@ -1,6 +1,6 @@
 -- Finds what is missing in the store for a polled device: the device, its point list (the registers
--- to poll), an accounting register, or an open meter. The program records energy only if nothing is
--- missing for it.
+-- to poll), an accounting register, or an open meter. The program records the energy of the device
+-- only if nothing is missing.
 use Rattle.std.specs.Prelude.{◌≡◌, ℕ, Bool, true, false, not, if◌then◌else◌, List, [], ◌∷◌, ◌++◌, length, ◌==◌, reverse, Option, Some, None, is_none, is_some, Result, OnOk}
 use Rattle.std.specs.Option.{option_and_then}
 use Rattle.std.specs.List.{flat_map, list_any}
@@ -18,17 +18,18 @@ use Rattle.run_http.specs.declared.status.advice.lacks.Lack.{Lack}
 use Rattle.run_http.specs.declared.status.advice.lacks.Lack.TheVariants.{NoDevice, NoList, NoRegister, NotInList, NoMeter}
 use Rattle.run_http.specs.declared.status.advice.lacks.DeviceLack.{DeviceLack}
 
--- A device, and one thing that is missing for the device in the store.
+-- A device, and one thing (such as an open meter) that the store must still get before the program
+-- records the device's energy.
 abbrev pub lack_of : (device : Option (List ℕ)) → Lack → DeviceLack
 lack_of device lack = record { device = device; lack = lack }
 
--- A list with the device and the missing thing `lack` if `lacking` is true, otherwise an empty
--- list.
+-- A list with the device and the missing thing `lack` (such as an open meter) if `lacking` is true,
+-- otherwise an empty list.
 abbrev pub lacks_if : (lacking : Bool) → (device : List ℕ) → Lack → List DeviceLack
 lacks_if true device lack = lack_of (Some device) lack ∷ []
 lacks_if false device lack = []
 
--- True if one of the planned Modbus reads covers the registers of the counter, and those of its
+-- True if one of the planned Modbus reads covers the Modbus registers of the counter and of its
 -- scale factor.
 abbrev pub is_read : List PlannedRead → Register → Bool
 is_read reads register = list_any (λ read. is_read_by read.span register) reads
@@ -43,26 +44,27 @@ is_in_list (Some list) register = is_read list.reads register
 abbrev pub is_open : Option Installation → Bool
 is_open row = is_some (option_and_then if_open row)
 
--- True if a meter is open at the accounting register.
+-- True if the accounting register has an open meter.
 abbrev pub has_meter : List Fact → Register → Bool
 has_meter known register = is_some (open_at known register.name)
 
--- What one accounting register of a device lacks: a read of the point list that covers it, or an
--- open meter.
+-- What is missing for one accounting register of a device: a read of the point list that covers the
+-- register, or an open meter.
 abbrev pub lacks_of_register : List Fact → (device : List ℕ) → Option Planned → Register
     → List DeviceLack
 lacks_of_register known device list register =
     lacks_if (not (is_in_list list register)) device (NotInList register)
     ++ lacks_if (not (has_meter known register)) device (NoMeter register)
 
--- What all accounting registers of a device lack: Modbus reads that cover them, or open meters.
+-- What is missing for all accounting registers of a device: Modbus reads that cover the registers,
+-- or open meters.
 abbrev pub lacks_of_registers : List Fact → (device : List ℕ) → Option Planned → List Register
     → List DeviceLack
 lacks_of_registers known device list registers =
     flat_map (lacks_of_register known device list) registers
 
--- What a device lacks: a point list, an accounting register, and what each of its accounting
--- registers lacks.
+-- What is missing for a device: a point list, an accounting register, and what is missing for each
+-- of its accounting registers.
 abbrev pub lacks_by : List Fact → (device : List ℕ) → Option Planned → List Register
     → List DeviceLack
 lacks_by known device list registers =
@@ -70,8 +72,8 @@ lacks_by known device list registers =
     ++ lacks_if (length registers == 0) device NoRegister
     ++ lacks_of_registers known device list registers
 
--- What a device lacks in the store: a point list, an accounting register, a read that covers a
--- register, or an open meter.
+-- What is missing in the store for a device: a point list, an accounting register, a read that
+-- covers a register, or an open meter.
 abbrev pub lacks_of_device : List Fact → (device : List ℕ) → List DeviceLack
 lacks_of_device known device =
     lacks_by known device (list_of known device) (registers_of known device)
@@ -84,39 +86,42 @@ has_name name devices = list_any (λ device. same device.name name) devices
 abbrev pub has_device : List Fact → (name : List ℕ) → Bool
 has_device known name = has_name name (reverse (devices_in known))
 
--- What the device with this name lacks: `NoDevice` if the store does not have the device.
+-- What is missing in the store for the device with this name: `NoDevice` if the store does not have
+-- the device, otherwise the things that `lacks_of_device` finds.
 abbrev pub lacks_of_name : List Fact → (name : List ℕ) → List DeviceLack
 lacks_of_name known name =
     if has_device known name then lacks_of_device known name
     else lacks_if true name NoDevice
 
--- What a device with an optional name lacks in the store. The name is None if it is not valid.
+-- What is missing in the store for a device with an optional name, for example an open meter. The
+-- name is None if it is not valid.
 abbrev pub lacks_of : List Fact → Option (List ℕ) → List DeviceLack
 lacks_of known None = lack_of None NoDevice ∷ []
 lacks_of known (Some name) = lacks_of_name known name
 
--- What each of the devices lacks in the store, one device after the other.
+-- What is missing in the store for each of the devices (for example an open meter), one device
+-- after the other.
 abbrev pub lacks_of_all : List Fact → List (Option (List ℕ)) → List DeviceLack
 lacks_of_all known devices = flat_map (lacks_of known) devices
 
 -- Definitions on the effect of lookups in the store.
 
--- A lookup changes no record of the store and no time zone. A store that has returned wrong data
--- stays marked as not clean (`is_clean`).
+-- States that a lookup leaves the records and the time zone of the store unchanged. A store that
+-- has returned wrong data stays marked as not clean (`is_clean`).
 pub record LooksUp (old new : Ledger) : Type 0 where
   pub keeps : KeepsFacts old new
   pub clean : new.is_clean → old.is_clean
   pub zone : new.zone ≡ old.zone
 
--- On success, everything that is missing for the devices (`says`) was appended to the list of
--- missing things. On an error, the appended items may be incomplete.
+-- States that, on success, everything that is missing for the devices (`says`) was appended to the
+-- list `before`. On an error, the appended items may be incomplete.
 abbrev pub Adds : {T E : Type 0} → (old new : Ledger) → (List Fact → List DeviceLack)
     → (before after : List DeviceLack) → Result T E → Type 0
 Adds old new says before after result = (known : List Fact) → old.holds known → new.is_clean
     → OnOk result (after ≡ before ++ says known)
 
--- On success, the device and the missing thing `lack` were appended to the list if `lacking` is
--- true.
+-- States that, on success, the device and the missing thing `lack` (such as an open meter) were
+-- appended to the list if `lacking` is true.
 abbrev pub AddsOne : {T E : Type 0} → (device : List ℕ) → Lack → (lacking : Bool)
     → (before after : List DeviceLack) → Result T E → Type 0
 AddsOne device lack lacking before after result =

@@ -6,7 +6,7 @@ use Rattle.run_http.specs.declared.status.advice.reported.ReportedNumber.{Report
 use Rattle.run_http.specs.declared.status.advice.reported.Topic.{Topic}
 use Rattle.run_http.specs.declared.status.advice.reported.Topic.TheVariants.{Connection, Round, Meter}
 
--- A number that identifies the topic of a message, by which two topics are compared.
+-- A number for each topic of a message, by which two topics are compared.
 abbrev pub topic_number : Topic → ℕ
 topic_number Connection = 1
 topic_number Round = 2
@@ -38,15 +38,15 @@ abbrev pub is_other : Option ReportedNumber → (number : ℕ) → Bool
 is_other None number = false
 is_other (Some before) number = if before.number == number then false else true
 
--- The list of reported error numbers. The entry at the index `place` is replaced if `other` is
--- true.
+-- The list of reported error numbers. If `other` is true, `reported` replaces the entry at the
+-- index `place`.
 abbrev pub changed_to : (other : Bool) → (place : ℕ) → ReportedNumber → List ReportedNumber
     → List ReportedNumber
 changed_to true place reported numbers = slice_set numbers place reported
 changed_to false place reported numbers = numbers
 
--- The list entry at the index `place` gets the new error number. `is_reported` is true if the
--- number differs from the old number and must be reported.
+-- States that the list entry at the index `place` gets the new error number. `is_reported` is true
+-- if the number differs from the old number and must be reported.
 abbrev pub Changes : (place : ℕ) → ReportedNumber → (old new : List ReportedNumber) → (is_reported : Bool)
     → Type 0
 Changes place reported old new is_reported =
@@ -58,20 +58,20 @@ abbrev pub pushed : (room : Bool) → ReportedNumber → List ReportedNumber →
 pushed true reported numbers = numbers ++ reported ∷ []
 pushed false reported numbers = numbers
 
--- If the list of reported error numbers has room, then an entry is added. `is_reported` is true if
--- the entry was added, and its number must be reported.
+-- States that an entry is added to the list of reported error numbers, if there is room and memory.
+-- `is_reported` is true if the entry was added, and its number must be reported.
 abbrev pub Adds : ReportedNumber → (old new : List ReportedNumber) → (is_reported : Bool) → Type 0
 Adds reported old new is_reported = new ≡ pushed is_reported reported old
 
--- The list entry at the index gets the new error number. Without an index, an entry with the number
--- is added to the list.
+-- States that the list entry at the index gets the new error number. Without an index, an entry
+-- with the number is added to the list.
 abbrev pub ReportsNumberAt : (place : Option ℕ) → ReportedNumber → (old new : List ReportedNumber)
     → (is_reported : Bool) → Type 0
 ReportsNumberAt None reported old new is_reported = Adds reported old new is_reported
 ReportsNumberAt (Some place) reported old new is_reported = Changes place reported old new is_reported
 
--- `is_reported` is true if the error number of a device or meter must be reported. Then the last
--- number on the same topic was different or missing.
+-- States that `is_reported` says whether to report the error number of a device or meter. If
+-- `is_reported` is true, the last reported number on the same topic was different or missing.
 abbrev pub ReportsNumber : ReportedNumber → (old new : List ReportedNumber) → (is_reported : Bool) → Type 0
 ReportsNumber reported old new is_reported = ReportsNumberAt (place_of reported old) reported old new is_reported
 
@@ -80,13 +80,14 @@ ReportsNumber reported old new is_reported = ReportsNumberAt (place_of reported 
 abbrev pub nothing_of : Topic → (name : Option (List ℕ)) → ReportedNumber
 nothing_of topic name = reported_number topic name 0
 
--- The list entry at the index gets the error number 0. Without an index, the list is unchanged.
+-- States that the list entry at the index gets the error number 0. Without an index, the list is
+-- unchanged.
 abbrev pub ForgetsAt : (place : Option ℕ) → ReportedNumber → (old new : List ReportedNumber) → Type 0
 ForgetsAt None none old new = new ≡ old
 ForgetsAt (Some place) none old new = (changed : Bool) × Changes place none old new changed
 
--- The list entry with this topic and this device or meter, if there is one, gets the error number
--- 0. The next problem of the device or meter is then reported again.
+-- States that the list entry with this topic and this device or meter, if there is one, gets the
+-- error number 0. The next problem of the device or meter is then reported again.
 abbrev pub Forgets : Topic → (name : Option (List ℕ)) → (old new : List ReportedNumber) → Type 0
 Forgets topic name old new =
     ForgetsAt (place_of (nothing_of topic name) old) (nothing_of topic name) old new

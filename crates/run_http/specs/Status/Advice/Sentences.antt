@@ -50,7 +50,8 @@ first_needed register = first_by register.address register.scale
 abbrev pub last_needed : Register → ℕ
 last_needed register = last_by register.address register.scale
 
--- The part of a message that names the device whose point list lacks an accounting register.
+-- The part of a message that names the device whose point list does not cover an accounting
+-- register.
 abbrev pub with_list_of : (device : Option (List ℕ)) → List ℕ → List ℕ
 with_list_of device text = text ++ codes ": missing from the point list of " ++ name_of device
 
@@ -63,7 +64,7 @@ with_unread device register text =
     ++ decimal (first_needed register)
     ++ codes " to " ++ decimal (last_needed register) ++ codes " to it\n"
 
--- The message that no meter is open at the accounting register.
+-- The message that the accounting register has no open meter.
 abbrev pub with_unmetered : Register → List ℕ → List ℕ
 with_unmetered register text =
     text ++ codes "sunreg: register " ++ register.name
@@ -77,7 +78,7 @@ with_unlisted device text =
     ++ codes ": no point list; create one with sunreg scan --list, then POST /devices/"
     ++ name_of device ++ codes "/list\n"
 
--- The message that says what a device lacks, and what to do.
+-- The message that says what is missing in the store for a device, and what to do.
 abbrev pub with_lack_of : (device : Option (List ℕ)) → Lack → List ℕ → List ℕ
 with_lack_of device NoDevice text =
     with_subject device text
@@ -89,7 +90,8 @@ with_lack_of device NoRegister text =
 with_lack_of device (NotInList register) text = with_unread device register text
 with_lack_of device (NoMeter register) text = with_unmetered register text
 
--- The message for a device and one thing that it lacks in the store, such as a point list.
+-- The message for a device and one thing that is missing for the device in the store, such as a
+-- point list.
 abbrev pub with_lack : DeviceLack → List ℕ → List ℕ
 with_lack lack text = with_lack_of lack.device lack.lack text
 
@@ -99,42 +101,45 @@ abbrev pub with_meaning : (before : List ℕ) → Meaning → List ℕ → List 
 with_meaning before meaning text =
     text ++ before ++ meaning.means.now ++ codes "; " ++ meaning.remedy.now ++ codes "\n"
 
--- What a device lacks if the program refused its event with "not found". For a connection, the
--- store does not have the device. For the start of a polling round, the device has no point list.
+-- What is missing for a device if the program refused the device's event with "not found". For a
+-- connection, the store does not have the device. For the start of a polling round, the device has
+-- no point list.
 abbrev pub lack_at : Event → Option Lack
 lack_at (event.Connected given) = Some NoDevice
 lack_at (event.Command (command.StartRound start)) = Some NoList
 lack_at _ = None
 
--- What the device lacks, if that is why the program refused the device's event. None if a message
--- should explain the refusal's number instead.
+-- What is missing for the device, if that is why the program refused the device's event. None if a
+-- message should explain the refusal's number instead.
 abbrev pub lack_by : Event → Refusal → Option Lack
 lack_by e refusal.NotFound = lack_at e
 lack_by e _ = None
 
--- The text `before`, the meaning of the error number, and a remedy were appended to the message.
+-- States that three parts were appended to the message: the text `before`, the meaning of the error
+-- number, and what the operator can do.
 abbrev pub MeansAfter : Kind → (number : ℕ) → (before old new : List ℕ) → Type 0
 MeansAfter k number before old new =
     (meaning : Bor Meaning) × IsMeaningOf k number meaning
     × (new ≡ with_meaning before meaning.now old)
 
--- A message was appended to the text. The message says what the device lacks, or explains the
--- refusal's number if the device lacks nothing.
+-- States that a message was appended to the text. The message says what is missing for the device,
+-- or explains the refusal's number if nothing is missing.
 abbrev pub RefusalAfter : Option Lack → (device : Option (List ℕ)) → Refusal
     → (old new : List ℕ) → Type 0
 RefusalAfter (Some lack) device why old new = new ≡ with_lack_of device lack old
 RefusalAfter None device why old new =
     MeansAfter kind.Refused (refusal_number why) (codes ": ") (with_subject device old) new
 
--- On success, a message was appended to the text. The message says what the device lacks if that is
--- why its event was refused, and otherwise explains the refusal's number.
+-- States that, on success, a message was appended to the text. If the event was refused because
+-- something is missing for the device, the message says what. Otherwise it explains the refusal's
+-- number.
 abbrev pub PutsRefusal : {E : Type 0} → (device : Option (List ℕ)) → Event → Refusal
     → (old new : List ℕ) → Result (Unit {0}) E → Type 0
 PutsRefusal device e why old new result =
     OnOk result (RefusalAfter (lack_by e why) device why old new)
 
--- On success, a message was appended to the text. The message says why the meter's reading was
--- rejected, and what to do.
+-- States that, on success, a message was appended to the text. The message says why the meter's
+-- reading was rejected, and what to do.
 abbrev pub PutsHeld : {E : Type 0} → (meter : List ℕ) → Cause → (old new : List ℕ)
     → Result (Unit {0}) E → Type 0
 PutsHeld meter cause old new result =

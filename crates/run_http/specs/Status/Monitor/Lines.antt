@@ -27,7 +27,8 @@ with_event at name (event.Gone given closing.Failed) text =
 with_event at name (event.Command c) text = text
 with_event at name (event.Asked asked) text = text
 
--- The log line of an accepted event, or of the event's refusal.
+-- The log line of an event of a device. If the program refused the event, the line reports the
+-- refusal.
 abbrev pub with_answer : (at : ℕ) → (name : Option (List ℕ)) → Event → Result Answer Refusal
     → List ℕ → List ℕ
 with_answer at name e (Ok given) text = with_event at name e text
@@ -43,7 +44,7 @@ with_note at name (note.Held meter raw cause) text =
     with_head at name text ++ codes " held " ++ meter ++ codes " " ++ decimal raw ++ codes " cause "
     ++ decimal (cause_number cause) ++ codes "\n"
 
--- The log lines of all readings that an event's notifications reject.
+-- The log lines of all readings that an event's notifications report as rejected.
 abbrev pub with_notes : (at : ℕ) → (name : Option (List ℕ)) → List Note → List ℕ → List ℕ
 with_notes at name [] text = text
 with_notes at name (one ∷ notes) text = with_notes at name notes (with_note at name one text)

@@ -17,18 +17,18 @@ is_end (event.Gone given closing) = true
 is_end (event.Command c) = false
 is_end (event.Asked asked) = false
 
--- The bytes that still wait to be sent to a device after an event: all bytes of the queue, or none
+-- The bytes that still wait to be sent to a device after an event: the bytes in its queue, or none
 -- if the event ended the connection.
 abbrev pub kept : Event → (queue : List ℕ) → List ℕ
 kept e queue = if is_end e then [] else queue
 
--- Either all Modbus frames of the event were queued in order, or no frame was queued because memory
--- ran out.
+-- States that either all Modbus frames of the event were queued in order, or no frame was queued
+-- because memory ran out.
 abbrev pub IsPut : Event → (frames old new : List ℕ) → Type 0
 IsPut e frames old new = (new ≡ kept e old ++ frames) ⊎ (new ≡ kept e old ++ [])
 
--- The send queues after frames were added to the queue at the index `place`. They are unchanged if
--- that index does not exist.
+-- The send queues after frames were added to the queue at the index `place`. The queues are
+-- unchanged if that index does not exist.
 abbrev pub sent_in : ℕ → Option (List ℕ) → Event → (frames : List ℕ) → List (List ℕ)
     → List (List ℕ)
 sent_in place None e frames queues = queues
@@ -38,14 +38,14 @@ sent_in place (Some queue) e frames queues = slice_set queues place (kept e queu
 abbrev pub sent_to : ℕ → Event → (frames : List ℕ) → List (List ℕ) → List (List ℕ)
 sent_to place e frames queues = sent_in place (slice_get queues place) e frames queues
 
--- Either all Modbus frames were queued for the device with the index `place`, or no frame was
--- queued because memory ran out.
+-- States that either all Modbus frames were queued for the device with the index `place`, or no
+-- frame was queued because memory ran out.
 abbrev pub IsSentTo : ℕ → Event → (frames : List ℕ) → (old new : List (List ℕ)) → Type 0
 IsSentTo place e frames old new =
     (new ≡ sent_to place e frames old) ⊎ (new ≡ sent_to place e [] old)
 
--- The Modbus frames of the event were queued for the device that the event concerns. An event of no
--- single device changes no queue.
+-- States that the Modbus frames of the event were queued for the device that the event concerns. An
+-- event that concerns no single device changes no queue.
 abbrev pub IsSentFor : Option ℕ → Event → (frames : List ℕ) → (old new : List (List ℕ)) → Type 0
 IsSentFor None e frames old new = new ≡ old
 IsSentFor (Some place) e frames old new = IsSentTo place e frames old new

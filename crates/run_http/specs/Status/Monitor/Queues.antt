@@ -3,8 +3,8 @@ use Rattle.std.specs.Prelude.{◌≡◌, ◌⊎◌, ◌==◌, ◌+◌, ◌-◌, 
 use Rattle.std.specs.List.{filter}
 use Rattle.run_http.specs.declared.status.monitor.line_queue.LineQueue.{LineQueue}
 
--- The model of a queue of log lines: the bytes added since the queue was last empty, the number of
--- written bytes, and the number of dropped lines.
+-- The model of a queue of log lines: the bytes added since the queue was last empty, how many of
+-- these bytes were written to the log, and the number of dropped lines.
 pub record Queue : Type 0 where
   pub put : List ℕ
   pub written : ℕ
@@ -50,14 +50,14 @@ is_due queue = not (queue.dropped == 0) && is_written queue
 abbrev pub reported : (at : ℕ) → Queue → Queue
 reported at queue = record { put = with_dropped at queue.dropped []; written = 0; dropped = 0 }
 
--- If `due` is true and memory suffices, the line with the number of dropped lines is added to the
--- queue.
+-- States that, if `due` is true and memory suffices, the line with the number of dropped lines is
+-- added to the queue.
 abbrev pub ReportsDroppedBy : (due : Bool) → (at : ℕ) → (old new : Queue) → Type 0
 ReportsDroppedBy true at old new = (new ≡ reported at old) ⊎ (new ≡ emptied old)
 ReportsDroppedBy false at old new = new ≡ old
 
--- The line with the number of dropped lines is added to the queue if lines were dropped, no bytes
--- wait, and memory suffices.
+-- States that the line with the number of dropped lines is added to the queue if lines were
+-- dropped, no bytes wait, and memory suffices.
 abbrev pub ReportsDropped : (at : ℕ) → (old new : Queue) → Type 0
 ReportsDropped at old new = ReportsDroppedBy (is_due old) at old new
 
@@ -77,18 +77,18 @@ abbrev pub left_out : (text : List ℕ) → Queue → Queue
 left_out text queue =
     record queue { dropped = min (queue.dropped + line_count text) (2 ^ 64 - 1) }
 
--- The text is added to the line queue if `room` is true and memory suffices. Otherwise the lines of
--- the text are dropped and counted.
+-- States that the text is added to the line queue if `room` is true and memory suffices. Otherwise
+-- the lines of the text are dropped and counted.
 abbrev pub PutsBy : (room : Bool) → (text : List ℕ) → (old new : Queue) → Type 0
 PutsBy true text old new = (new ≡ kept text old) ⊎ (new ≡ left_out text old)
 PutsBy false text old new = new ≡ left_out text old
 
--- The text is added to the line queue if the queue has room and memory suffices. Otherwise the
--- lines of the text are dropped and counted.
+-- States that the text is added to the line queue if the queue has room and memory suffices.
+-- Otherwise the lines of the text are dropped and counted.
 abbrev pub PutsAfter : (text : List ℕ) → (old new : Queue) → Type 0
 PutsAfter text old new = PutsBy (has_room text old) text old new
 
--- The line queue is first cleared if all its bytes were written. Then the text is queued, or its
--- lines are dropped and counted.
+-- States that the line queue is first cleared if all its bytes were written. Then the text is
+-- queued, or its lines are dropped and counted.
 abbrev pub Puts : (text : List ℕ) → (old new : Queue) → Type 0
 Puts text old new = PutsAfter text (emptied old) new

@@ -25,8 +25,8 @@ is_reading (note.Outcome poll outcome) = false
 is_reading (note.Reading meter raw rolls step) = true
 is_reading (note.Held meter raw cause) = false
 
--- True if the device is connected after the program accepted or refused its connection. After a
--- refusal, the value is the same as before.
+-- True if the device is connected after the event `Connected`. If the program refused the event,
+-- the value is the same as before.
 abbrev pub connected_by : (before : Bool) → Result Answer Refusal → Bool
 connected_by before (Ok given) = true
 connected_by before (Err why) = before
@@ -51,8 +51,8 @@ followed at e answer notes state = record {
   latest = if list_any is_reading notes then Some at else state.latest;
 }
 
--- The states of all devices after an event of the device with the index `place`. They are unchanged
--- if that index does not exist.
+-- The states of all devices after an event of the device with the index `place`. The states are
+-- unchanged if that index does not exist.
 abbrev pub followed_in : ℕ → Option DeviceState → (at : ℕ) → Event → Result Answer Refusal
     → List Note → List DeviceState → List DeviceState
 followed_in place None at e answer notes states = states
@@ -65,7 +65,8 @@ abbrev pub followed_at : ℕ → (at : ℕ) → Event → Result Answer Refusal 
 followed_at place at e answer notes states =
     followed_in place (slice_get states place) at e answer notes states
 
--- The states of all devices after this event. An event of no single device changes no state.
+-- The states of all devices after this event. An event that concerns no single device changes no
+-- state.
 abbrev pub followed_for : Option ℕ → (at : ℕ) → Event → Result Answer Refusal → List Note
     → List DeviceState → List DeviceState
 followed_for None at e answer notes states = states
@@ -77,8 +78,8 @@ abbrev pub counted : Result Answer Refusal → List Note → Counts → Counts
 counted (Ok given) notes counts = noted_all notes counts
 counted (Err why) notes counts = noted_all notes (refused counts)
 
--- Records one event for `/status` and the logs: counts, the device states and the Modbus frames to
--- send.
+-- States what the program records of one event for `/status` and the logs: counts, the device
+-- states and the Modbus frames to send.
 pub record Keeps (old : RunMonitor) (shown : Shown) (new : RunMonitor) : Type 0 where
   pub counts : new.counts ≡ counted shown.answer shown.notes old.counts
   pub states : new.states.items

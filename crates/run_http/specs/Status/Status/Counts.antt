@@ -51,6 +51,6 @@ abbrev pub noted_all : List Note → Counts → Counts
 noted_all [] counts = counts
 noted_all (one ∷ notes) counts = noted_all notes (noted one counts)
 
--- The counts of `/status` after the program refused another event.
+-- The counts of `/status` after the program refused one more event.
 abbrev pub refused : Counts → Counts
 refused counts = record counts { refusals = one_more counts.refusals }

@@ -44,7 +44,8 @@ with_devices text [] = text
 with_devices text (device ∷ devices) =
     with_more_devices (with_device (codes "{\"name\":\"") text device) devices
 
--- The JSON members that count ended polls by outcome and accepted readings.
+-- The JSON members with the numbers of ended polls, by outcome, and the JSON member with the number
+-- of accepted readings.
 abbrev pub with_polls : List ℕ → Counts → List ℕ
 with_polls text counts =
     text ++ codes "],\"polls\":{\"answered\":" ++ decimal counts.answered ++ codes ",\"exception\":"

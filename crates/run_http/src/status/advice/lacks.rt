@@ -1,6 +1,7 @@
 //! Finds what is missing in the store for a polled device: the device, its point list (the
-//! registers to poll), an accounting register, or an open meter. The program records energy only if
-//! nothing is missing for it.
+//! registers to poll), an accounting register, or an open meter.
+//!
+//! The program records the energy of the device only if nothing is missing.
 ghost use Rattle.std.specs.Prelude.{◌≡◌};
 ghost use Rattle.std.specs.Option.{option_map};
 ghost use Rattle.office_books.specs.Ledgers.{Finds, OnlyReads};
@@ -12,8 +13,8 @@ use office_events::{Device, Installation, Name, PlannedList, Register};
 use read_plan::PlannedRead;
 use std::alloc::AllocError;
 
-/// Something that a device lacks in the store. Without it, the program records no energy of the
-/// device, or of one accounting register (`NotInList`, `NoMeter`).
+/// Something that is missing in the store for a device. Without it, the program records no energy
+/// of the device, or of one accounting register (`NotInList`, `NoMeter`).
 #[derive(Clone, Copy)]
 pub enum Lack {
     /// The store has no device with the name on the command line.
@@ -25,11 +26,11 @@ pub enum Lack {
     /// No read of the device's point list covers both the counter and the scale of this accounting
     /// register.
     NotInList(Register),
-    /// No meter is open at this accounting register.
+    /// This accounting register has no open meter.
     NoMeter(Register),
 }
 
-/// A device named on the command line, and one thing that the device lacks in the store.
+/// A device named on the command line, and one thing that is missing for the device in the store.
 #[derive(Clone, Copy)]
 pub struct DeviceLack {
     pub device: Option<Name>,
@@ -141,7 +142,8 @@ fn add_of_registers<B: Books>(
     Ok(())
 }
 
-// Adds to the list everything that a device lacks. The store must have the device.
+// Adds to the list each thing that is missing in the store for a device (such as an open meter).
+// The store must have the device.
 fn add_of_device<B: Books>(
     lacks: &mut Vec<DeviceLack>,
     books: &mut B,
@@ -158,8 +160,8 @@ fn add_of_device<B: Books>(
     add_of_registers(lacks, books, device, &list, &registers)
 }
 
-// Adds to the list everything that the device `name` lacks, or `NoDevice` if the store has no
-// device with that name.
+// Adds to the list each thing that is missing in the store for the device `name` (such as an open
+// meter). If the store has no device with that name, adds `NoDevice`.
 fn add_of_name<B: Books>(
     lacks: &mut Vec<DeviceLack>,
     books: &mut B,
@@ -176,9 +178,8 @@ fn add_of_name<B: Books>(
     Ok(())
 }
 
-/// Adds to a list what a device lacks, according to the records of the store.
-///
-/// A device lacks nothing if it meets these conditions.
+/// Adds to a list each thing that is missing for a device in the records of the store. Nothing is
+/// missing if these conditions hold.
 ///
 /// - The store has the device.
 /// - The device has a point list and an accounting register.

@@ -14,7 +14,7 @@ pub const MOST_REPORTED: usize = 512;
 pub enum Topic {
     /// The number says why the program refused a device's connection.
     Connection,
-    /// The number says why the program refused another event of a device, or of no single device.
+    /// The number says why the program refused an event other than a connection of a device.
     Round,
     /// The number says why the program rejected a meter's reading.
     Meter,
@@ -24,7 +24,7 @@ impl Topic {
     ghost use Rattle.std.specs.Prelude.{◌≡◌};
     ghost use Rattle.run_http.specs.Status.Advice.Reported.{topic_number};
 
-    // Returns a number that identifies the topic of a message, by which two topics are compared.
+    // Returns a number for the topic of a message, by which two topics are compared.
     fn number(self) -> u8
         ensures { result ≡ topic_number self }
     {
@@ -36,7 +36,8 @@ impl Topic {
     }
 }
 
-/// The error number in the latest message about a device or a meter; 0 if there was no message.
+/// The error number in the latest message about a device or a meter; 0 if the device or meter has
+/// worked since that message.
 #[derive(Clone, Copy, PartialEq, Eq)]
 pub struct ReportedNumber {
     pub topic: Topic,
@@ -95,7 +96,7 @@ impl Reported {
         self.numbers.iter().position(|one| one.is_of_same(reported))
     }
 
-    // Adds a list entry for a device or meter if memory suffices.
+    // Adds a list entry for a device or meter. Fails if memory runs out.
     fn push(&mut self, topic: Topic, name: Option<Name>, number: u8) -> Result<(), AllocError>
         ensures { self.new.numbers.items
             ≡ specs.pushed (is_ok result) (specs.reported_number topic name number)
@@ -109,7 +110,7 @@ impl Reported {
         Ok(())
     }
 
-    // Adds a list entry for a device or meter, and returns whether the list had room.
+    // Adds a list entry for a device or meter, and returns whether room and memory sufficed for it.
     fn add(&mut self, reported: ReportedNumber) -> bool
         ensures { specs.Adds reported self.old.numbers.items self.new.numbers.items result }
     {
@@ -120,7 +121,7 @@ impl Reported {
     }
 
     // Replaces the error number of the list entry at an index, and returns whether the new number
-    // is different.
+    // differs from the old number.
     fn change(&mut self, place: usize, reported: ReportedNumber) -> bool
         ensures { specs.Changes place reported self.old.numbers.items self.new.numbers.items result }
     {

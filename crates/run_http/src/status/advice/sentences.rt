@@ -1,4 +1,4 @@
-//! Messages for operators: what is missing or wrong, and what to do about it.
+//! Messages for operators: what is missing in the store or wrong, and what to do about it.
 ghost use Rattle.std.specs.Prelude.{◌≡◌, ◌≤◌, ◌-◌, ◌^◌, OnOk};
 ghost use Rattle.run_http.specs.Status.Advice.Sentences as sentences;
 
@@ -41,7 +41,8 @@ fn last_needed(register: &Register) -> u64
     }
 }
 
-// Appends to a message the name of the device whose point list lacks an accounting register.
+// Appends to a message the name of the device whose point list does not cover an accounting
+// register.
 fn write_list_of(text: &mut Vec<u8>, device: &Option<Name>) -> Result<(), AllocError>
     ensures { OnOk result (text.new.items ≡ sentences.with_list_of device.now text.old.items) }
 {
@@ -103,8 +104,8 @@ fn write_unlisted(text: &mut Vec<u8>, device: &Option<Name>) -> Result<(), Alloc
     append_bytes(text, b"/list\n")
 }
 
-/// Appends a message that says what a device lacks and what to do. If memory runs out, a part of
-/// the message remains.
+/// Appends a message that says what is missing in the store for a device and what to do. If memory
+/// runs out, only a part of the message was appended.
 pub fn write_lack(text: &mut Vec<u8>, lack: &DeviceLack) -> Result<(), AllocError>
     ensures { OnOk result (text.new.items ≡ sentences.with_lack lack.now text.old.items) }
 {
@@ -141,8 +142,8 @@ fn append_meaning(text: &mut Vec<u8>, before: &[u8], meaning: &Meaning) -> Resul
     append_bytes(text, b"\n")
 }
 
-// Returns what the device lacks, if that is why the program refused the device's event. Returns
-// `None` if a message should explain the refusal's number instead.
+// Returns what is missing for the device, if that is why the program refused the device's event.
+// Returns `None` if a message should explain the refusal's number instead.
 fn lack_by(event: &Event, why: Refusal) -> Option<Lack>
     ensures { result ≡ sentences.lack_by event.now why }
 {
@@ -154,7 +155,7 @@ fn lack_by(event: &Event, why: Refusal) -> Option<Lack>
 }
 
 /// Appends a message that explains why the program refused a device's event, and what to do. If
-/// memory runs out, a part of the message remains.
+/// memory runs out, only a part of the message was appended.
 pub fn append_refusal(
     text: &mut Vec<u8>,
     device: &Option<Name>,
@@ -182,7 +183,7 @@ pub fn append_refusal(
 }
 
 /// Appends a message that explains why the program rejected a meter's reading, and what to do. If
-/// memory runs out, a part of the message remains.
+/// memory runs out, only a part of the message was appended.
 pub fn write_held(text: &mut Vec<u8>, meter: &Name, cause: Cause) -> Result<(), AllocError>
     ensures { sentences.PutsHeld meter.now cause text.old.items text.new.items result }
 {

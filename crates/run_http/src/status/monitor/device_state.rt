@@ -1,5 +1,5 @@
-//! The state of a device after each of its events: whether it is connected, and when it was last
-//! read.
+//! The state of a device after each of its events: whether it is connected, and the time of its
+//! latest accepted reading.
 ghost use Rattle.std.specs.Prelude.{◌≡◌};
 ghost use Rattle.std.specs.List.{list_any};
 ghost use Rattle.run_http.specs.Status.Monitor.Watching as watching;

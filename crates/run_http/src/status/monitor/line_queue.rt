@@ -8,8 +8,9 @@ use std::alloc::{AllocError, Global};
 /// The most bytes in the queue. A longer text is accepted if the queue is empty.
 pub const MOST_WAITING: usize = 65_536;
 
-/// A bounded queue of log lines. After the queue dropped a line because it was full, the queue
-/// drops and counts all lines until the waiting lines are written.
+/// A bounded queue of log lines. After the queue dropped a line because it was full, it drops and
+/// counts all new lines. It accepts lines again when all waiting lines are written and the count is
+/// reported.
 #[derive(Drop)]
 pub struct LineQueue {
     /// The bytes that were added to the queue since it was last empty.
@@ -79,8 +80,8 @@ impl LineQueue {
         self.dropped = self.dropped.saturating_add(count_lines(lines));
     }
 
-    // Returns whether the queue has room for lines. After lines were dropped, the queue has no room
-    // until their number is reported.
+    // Returns whether the queue has room for log lines. After the queue dropped lines, it has no
+    // room until the number of dropped lines is reported.
     fn has_room(&self, lines: &[u8]) -> bool
         ensures { result ≡ queues.has_room lines.now (queue_of self.now) }
     {
@@ -102,8 +103,8 @@ impl LineQueue {
         }
     }
 
-    /// Adds complete lines to the queue. If room or memory does not suffice for all of them, the
-    /// queue drops and counts all of them.
+    /// Adds complete log lines to the queue. If room or memory does not suffice for all of them,
+    /// the queue drops and counts all of them.
     pub fn push_lines(&mut self, lines: &[u8])
         ensures { queues.Puts lines.now (queue_of self.old) (queue_of self.new) }
     {
@@ -111,8 +112,8 @@ impl LineQueue {
         self.write_after(lines);
     }
 
-    /// Adds the line that says how many lines were dropped up to the time `at`, once all waiting
-    /// lines were written. If memory runs out, a later call adds that line.
+    /// If lines were dropped and all waiting lines were written, adds the line that says how many
+    /// lines were dropped up to the time `at`. If memory runs out, a later call adds the line.
     pub fn append_dropped(&mut self, at: u64)
         ensures { queues.ReportsDropped at (queue_of self.old) (queue_of self.new) }
     {

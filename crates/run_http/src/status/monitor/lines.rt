@@ -8,7 +8,7 @@ use poll_core::Closing;
 use std::alloc::AllocError;
 
 /// Appends the beginning of a log line: a timestamp and a device's name, or `-` for a name that is
-/// not valid. If memory runs out, a part of the text remains.
+/// not valid. If memory runs out, only a part of the text was appended.
 pub fn write_head(text: &mut Vec<u8>, at: u64, name: &Option<Name>) -> Result<(), AllocError>
     ensures { OnOk result (text.new.items ≡ lines.with_head at name.now text.old.items) }
 {
@@ -19,7 +19,7 @@ pub fn write_head(text: &mut Vec<u8>, at: u64, name: &Option<Name>) -> Result<()
     }
 }
 
-// Appends the log line of a connection that began or ended.
+// Appends the log line of an event that begins or ends a connection. Other events have no line.
 fn write_event(
     text: &mut Vec<u8>,
     at: u64,
@@ -49,7 +49,8 @@ fn write_event(
     }
 }
 
-// Appends the log line of a device's event that the program accepted or refused.
+// Appends the log line of a device's event. If the program refused the event, the line reports the
+// refusal.
 fn write_answered(
     text: &mut Vec<u8>,
     at: u64,
@@ -70,7 +71,8 @@ fn write_answered(
     }
 }
 
-// Appends the log line of a rejected reading, with the cause of the rejection.
+// Appends the log line of a notification that reports a rejected reading, with the cause. Other
+// notifications have no line.
 fn append_note(
     text: &mut Vec<u8>,
     at: u64,
@@ -110,7 +112,7 @@ fn append_notes(
 /// Appends the log lines of one event of a device.
 ///
 /// A connection that began or ended, a refusal, and each rejected reading have a line. A poll has
-/// no line. If memory runs out, a part of the text remains.
+/// no line. If memory runs out, only a part of the text was appended.
 pub fn write_lines(
     text: &mut Vec<u8>,
     at: u64,

@@ -17,8 +17,8 @@ fn is_end(event: &Event) -> bool
     }
 }
 
-/// Queues Modbus frames for a device if memory suffices. The end of a connection first drops the
-/// frames that were not sent.
+/// Queues Modbus frames for a device if memory suffices. If the event ends the device's connection,
+/// the frames that were not sent are first dropped.
 #[tactic(auto, using(crate::proofs::StatusLemmas::MonitorLemmas::Queues::write_or_not))]
 pub(crate) fn write_frames(queue: &mut Vec<u8>, event: &Event, frames: &[u8])
     ensures { sending.IsPut event.now frames.now queue.old.items queue.new.items }

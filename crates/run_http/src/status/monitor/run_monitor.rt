@@ -1,4 +1,5 @@
-//! Records the program's events for `/status` and log lines, and queues the Modbus frames to send.
+//! Records the program's events for `/status` and log lines, and queues the Modbus frames to send
+//! to devices.
 use crate::status::monitor::device_state::{followed, unconnected};
 use crate::status::monitor::output::write_frames;
 use crate::status::status::{Counts, DeviceState};

@@ -7,7 +7,8 @@ use poll_core::Outcome;
 /// The counts in `/status`. Each count stops at 2^64 - 1.
 #[derive(Clone, Copy, PartialEq, Eq)]
 pub struct Counts {
-    /// The number of ended polls with each outcome.
+    /// The numbers of ended polls, one for each outcome of a poll: the fields `answered`,
+    /// `exceptions`, `silent`, `malformed` and `lost`.
     pub answered: u64,
     pub exceptions: u64,
     pub silent: u64,

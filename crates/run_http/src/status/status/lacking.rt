@@ -1,4 +1,4 @@
-//! Formats what devices lack in the store, as JSON of `/status`.
+//! Formats what is missing in the store for devices, as JSON of `/status`.
 ghost use Rattle.std.specs.Prelude.{◌≡◌, OnOk};
 ghost use Rattle.run_http.specs.Status.Status.LackingText as json;
 
@@ -51,7 +51,8 @@ fn write_lack(text: &mut Vec<u8>, before: &[u8], lack: &DeviceLack) -> Result<()
     write_what(text, &lack.lack)
 }
 
-// Appends devices and what they lack as JSON, each with a comma before it.
+// Appends devices and what is missing for them (such as a point list) as JSON, each with a comma
+// before it.
 fn write_more_lacks(text: &mut Vec<u8>, lacks: &[DeviceLack]) -> Result<(), AllocError>
     ensures { OnOk result (text.new.items ≡ json.with_more_lacks text.old.items lacks.now) }
 {
@@ -61,7 +62,8 @@ fn write_more_lacks(text: &mut Vec<u8>, lacks: &[DeviceLack]) -> Result<(), Allo
     Ok(())
 }
 
-// Appends devices and what they lack as JSON, with commas between them.
+// Appends devices and what is missing for them (such as a point list) as JSON, with commas between
+// them.
 fn write_each(text: &mut Vec<u8>, lacks: &[DeviceLack]) -> Result<(), AllocError>
     ensures { OnOk result (text.new.items ≡ json.with_each text.old.items lacks.now) }
 {
@@ -74,7 +76,8 @@ fn write_each(text: &mut Vec<u8>, lacks: &[DeviceLack]) -> Result<(), AllocError
     }
 }
 
-/// Appends the JSON member `lacks` of `/status`: what devices lack in the store.
+/// Appends the JSON member `lacks` of `/status`: what is missing in the store for devices, such as
+/// a point list.
 pub(crate) fn write_lacks(text: &mut Vec<u8>, lacks: &[DeviceLack]) -> Result<(), AllocError>
     ensures { OnOk result (text.new.items ≡ json.with_lacks text.old.items lacks.now) }
 {

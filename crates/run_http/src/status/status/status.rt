@@ -101,7 +101,7 @@ fn write_held(text: &mut Vec<u8>, held: &[u64; 8]) -> Result<(), AllocError>
     write_number(text, b",\"not_below_range\":", held[7])
 }
 
-/// Appends the JSON of `/status`. If memory runs out, a part of the JSON remains.
+/// Appends the JSON of `/status`. If memory runs out, only a part of the JSON was appended.
 pub fn write_status(
     text: &mut Vec<u8>,
     counts: &Counts,

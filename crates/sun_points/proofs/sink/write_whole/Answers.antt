@@ -11,7 +11,8 @@ moves_front all done rest left n split is =
     split ∙ ap (λ (l : List ℕ). done ++ l) (sym (take-append-drop n rest)) ∙ sym (append_assoc done (take n rest) (drop n rest))
     ∙ ap (λ (l : List ℕ). (done ++ take n rest) ++ l) (sym (take_rest rest n) ∙ sym is)
 
--- An interrupted write leaves the remaining bytes unchanged.
+-- After an interrupted write, the remaining bytes are unchanged. The bytes written earlier and the
+-- remaining bytes together are still the complete text.
 stays : (all done rest left : List ℕ) → all ≡ done ++ rest → left ≡ rest → all ≡ done ++ left
 stays all done rest left split is = split ∙ ap (λ (l : List ℕ). done ++ l) (sym is)
 

@@ -27,8 +27,8 @@ pub record Member : Type 0 where
   pub name : List ℕ
   pub want : Want
 
--- True if the member of the JSON object has its required type. A negative number also has the type
--- Natural.
+-- True if the member of the JSON object has the required type. A negative number also has the type
+-- Natural, since another test rejects it.
 abbrev pub is_of_kind : Want → List ℕ → Data → Bool
 is_of_kind Text name d = is_some (text name d)
 is_of_kind Whole name d = is_some (whole name d)
@@ -53,19 +53,19 @@ is_too_low Optional name d = is_below_zero (whole name d)
 abbrev pub have_kinds : List Member → Data → Bool
 have_kinds members d = list_all (λ m. is_of_kind m.want m.name d) members
 
--- True if one of the listed members of the JSON body is negative, although its required type
--- excludes negative numbers.
+-- True if at least one of the listed members of the JSON body is negative, although its required
+-- type excludes negative numbers.
 abbrev pub have_negative : List Member → Data → Bool
 have_negative members d = list_any (λ m. is_too_low m.want m.name d) members
 
--- The fault of a JSON body. A missing member or a wrong type takes precedence over a negative
--- number.
+-- The fault of a JSON body, from two flags: whether all members have their types, and whether a
+-- member is negative. A wrong type takes precedence over a negative number.
 abbrev pub fault_in : Bool → Bool → Option BodyFault
 fault_in kinds negative =
     if kinds then (if negative then Some Negative else None) else Some Malformed
 
--- True if the JSON body has no fault and the result has its values, or if the result is the body's
--- fault.
+-- True if `Ok` means that the JSON body has no fault and has the returned values, and an error is
+-- the body's fault.
 abbrev pub Reads : {X : Type 0} → Option BodyFault → (X → Type 0) → Result X BodyFault → Type 0
 Reads fault IsIn (Ok x) = (fault ≡ None) × IsIn x
 Reads fault IsIn (Err e) = fault ≡ Some e

@@ -2,7 +2,7 @@ use Rattle.std.proofs.Common.{sym, subst}
 use Rattle.office_program.specs.Entering.Lines.{reporting_of}
 use Rattle.stored_office.specs.Tasks.Tasks.{Does}
 use Rattle.stored_office.specs.declared.tasks.tasks.Task.{Task}
-use Rattle.stored_office.specs.declared.tasks.tasks.Done.TheVariants.{Reported, Served, Entered, Checked, Polled, Ran}
+use Rattle.stored_office.specs.declared.tasks.tasks.Done.TheVariants.{Reported, Served, Entered, Polled, Ran}
 use Rattle.stored_office.proofs.tasks.tasks.carry_out.Goals as goal
 
 pub returns-in-Report-clause-does : goal.returns-in-Report-clause-does
@@ -39,13 +39,6 @@ returns-in-Enter-clause-does g c = λ past stands clean.
     let P : Task → Type 0 = λ t. Does g.B.Books.ledger (reporting_of g.F.NamedFiles c.args.files.now) past (g.C.Clock.moments c.args.clock.now) (g.C.Clock.moments c.enter_books-done.new.clock)
     (g.W.Write.contents c.args.output.now) (g.W.Write.contents c.enter_books-done.new.output) c.args.books c.enter_books-done.result.books t (Entered c.enter_books-done.result.end) in
     subst P (sym c.in-Enter.is) (c.enter_books-done.ensures.reports past stands clean)
-
-pub returns-in-Check-clause-does : goal.returns-in-Check-clause-does
-unfolding Does
-returns-in-Check-clause-does g c = λ past stands clean.
-    let P : Task → Type 0 = λ t. Does g.B.Books.ledger (reporting_of g.F.NamedFiles c.args.files.now) past (g.C.Clock.moments c.args.clock.now) (g.C.Clock.moments c.args.clock.now)
-    (g.W.Write.contents c.args.output.now) (g.W.Write.contents c.check_books-done.new.output) c.args.books c.check_books-done.result.books t (Checked c.check_books-done.result.end) in
-    subst P (sym c.in-Check.is) (c.check_books-done.ensures.checks past stands clean)
 
 pub returns-in-Round-clause-does : goal.returns-in-Round-clause-does
 unfolding Does

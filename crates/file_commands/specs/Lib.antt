@@ -1,0 +1,5 @@
+pub mod Forms
+pub mod Audits
+pub mod JoinedAudits
+pub mod JoinedReports
+pub mod Rollovers
