@@ -276,7 +276,7 @@ def definitions():
         ("a default", ("ranges", '"range" INTEGER NOT NULL', '"range" INTEGER NOT NULL DEFAULT 65536', "")),
         ("a check", ("voids", "moment INTEGER NOT NULL", "moment INTEGER NOT NULL CHECK (moment > 0)", "")),
     ):
-        wanted = (3, [], ["failed", other_objects])
+        wanted = (3, [], ["failed", f"sunreg: changed.db: its table {change[0]} is not that of sunreg: use an intact copy or a backup"])
         same(what, redefined(*change), wanted)
         same(f"{what}: no seal", audit("changed.db", "--seal"), wanted)
     same("the same table in other words", redefined("voids", "voids (", "voids ( -- a void\n ", "")[:1], (0,))

@@ -2,9 +2,10 @@
 use office_store::OpenFault;
 use stored_files::{AuditFault, CopyFault, Failure, FileFault};
 use sun_chain::scans::ScanFault;
+use table_audit::SchemaFault;
 
 /// Every failure of a command, with its text.
-static FAILURES: [(Failure<'static>, &str); 42] = [
+static FAILURES: [(Failure<'static>, &str); 43] = [
     (Failure::Memory, "out of memory"),
     (
         Failure::Streams,
@@ -198,9 +199,16 @@ static FAILURES: [(Failure<'static>, &str); 42] = [
     (
         Failure::Unaudited {
             path: "a.db",
-            fault: AuditFault::Schema,
+            fault: AuditFault::Schema(SchemaFault::Objects),
         },
         "a.db: its tables, indexes, views or triggers are not those of sunreg: use an intact copy or a backup",
+    ),
+    (
+        Failure::Unaudited {
+            path: "a.db",
+            fault: AuditFault::Schema(SchemaFault::Installations),
+        },
+        "a.db: its table installations is not that of sunreg: use an intact copy or a backup",
     ),
     (
         Failure::Unaudited {

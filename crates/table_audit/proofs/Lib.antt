@@ -13,3 +13,4 @@ pub mod Rising
 pub mod Found
 pub mod Lines
 pub mod HeldRows
+pub mod SchemaNames

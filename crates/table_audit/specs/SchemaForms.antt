@@ -1,6 +1,6 @@
--- Builds the definitions of tables and indexes from the short forms in which the program lists its
--- schema.
-use Rattle.std.specs.Prelude.{ℕ, true, false, List, [], map}
+-- Defines which tables and indexes are described by the short forms in which the program lists its
+-- schema. Also defines which fault names the first difference of another schema.
+use Rattle.std.specs.Prelude.{◌≡◌, ◌≢◌, ◌⊎◌, ℕ, true, false, List, [], ◌∷◌, map}
 use Rattle.std.specs.Borrow.{Bor}
 use Rattle.sqlite.specs.Table.{Table}
 use Rattle.sqlite_schema.specs.declared.schema.Column.{Column}
@@ -8,8 +8,10 @@ use Rattle.sqlite_schema.specs.declared.schema.Index.{Index}
 use Rattle.sqlite_schema.specs.declared.schema.Reference.{Reference}
 use Rattle.sqlite_schema.specs.declared.schema.Stamps.{Stamps}
 use Rattle.sqlite_value.specs.Keys.{plain}
-use Rattle.store_tables.specs.Schema.{strict, refers}
+use Rattle.store_tables.specs.Schema.{books_schema, strict, refers}
 use Rattle.sqlite.specs.Kind.{Kind}
+use Rattle.table_audit.specs.declared.schema.SchemaFault.{SchemaFault}
+use Rattle.table_audit.specs.declared.schema.SchemaFault.TheVariants.{Meta, Devices, Points, Registers, Installations, Entries, Polls, Holds, Outcomes, Intervals, Replies, Ranges, Voids, Objects}
 use Rattle.table_audit.specs.declared.schema.forms.KeyForm.{KeyForm}
 use Rattle.table_audit.specs.declared.schema.forms.TableForm.{TableForm}
 use Rattle.table_audit.specs.declared.schema.forms.IndexForm.{IndexForm}
@@ -56,3 +58,24 @@ index_of form = record {
   order = plain;
   is_unique = true;
 }
+
+-- The list of faults, one for each table of the program, in the order of the tables. Each fault
+-- means that its table differs in a file.
+abbrev pub table_faults : List SchemaFault
+table_faults =
+    Meta ∷ Devices ∷ Points ∷ Registers ∷ Installations ∷ Entries ∷ Polls ∷ Holds ∷ Outcomes
+    ∷ Intervals ∷ Replies ∷ Ranges ∷ Voids ∷ []
+
+-- States that `fault` is the fault of the first table that differs from the expected table at the
+-- same index. If there is no such table, the fault is `Objects`: tables may be missing or surplus.
+abbrev pub NamesFirst : (tables expected : List Table) → (faults : List SchemaFault) → SchemaFault
+    → Type 0
+NamesFirst (table ∷ tables) (other ∷ expected) (named ∷ faults) fault =
+    ((table ≢ other) × (fault ≡ named))
+    ⊎ ((table ≡ other) × NamesFirst tables expected faults fault)
+NamesFirst _ _ _ fault = fault ≡ Objects
+
+-- States that `fault` is the fault of the first table that differs from the program's table at the
+-- same index, or `Objects` if there is no such table.
+abbrev pub NamesDifference : (tables : List Table) → SchemaFault → Type 0
+NamesDifference tables fault = NamesFirst tables books_schema.tables table_faults fault

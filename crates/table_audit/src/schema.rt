@@ -5,6 +5,7 @@ ghost use Rattle.std.specs.Prelude.{◌≡◌, ◌≢◌, ◌↔◌, false, OnOk
 ghost use Rattle.store_tables.specs.Content.{Content};
 ghost use Rattle.store_tables.specs.Schema.{books_schema};
 ghost use Rattle.table_audit.specs.Looking.{HoldsRows, HoldsTables};
+ghost use Rattle.table_audit.specs.SchemaForms.{NamesDifference};
 
 mod comparing;
 mod forms;
@@ -12,18 +13,53 @@ mod program_tables;
 
 use crate::schema::comparing::are_indexes;
 use crate::schema::forms::IndexForm;
-use crate::schema::program_tables::check_tables;
+use crate::schema::program_tables::check_program_tables;
 use sqlite::{Alter, Connection};
 use sqlite_schema::schema::{Index, Schema};
 
-/// Describes how the schema of a file differs from the schema that the program creates.
-#[derive(Clone, Copy, PartialEq, Eq)]
+/// The first difference between the schema of a file and the schema that the program creates.
+#[derive(Clone, Copy, Debug, PartialEq, Eq)]
 pub enum SchemaFault {
-    /// The table with this name differs from the table that the program creates.
-    Table(&'static str),
+    /// The table `meta` differs. Each of the next faults, up to `Voids`, means that another table
+    /// differs.
+    Meta,
+    Devices,
+    Points,
+    Registers,
+    Installations,
+    Entries,
+    Polls,
+    Holds,
+    Outcomes,
+    Intervals,
+    Replies,
+    Ranges,
+    Voids,
     /// The file has another number of tables than the program creates, other indexes, a view or a
     /// trigger.
     Objects,
+}
+
+impl SchemaFault {
+    /// Returns the name of the table that differs, or `None` if another object differs.
+    pub fn table(self) -> Option<&'static str> {
+        match self {
+            SchemaFault::Meta => Some("meta"),
+            SchemaFault::Devices => Some("devices"),
+            SchemaFault::Points => Some("points"),
+            SchemaFault::Registers => Some("registers"),
+            SchemaFault::Installations => Some("installations"),
+            SchemaFault::Entries => Some("entries"),
+            SchemaFault::Polls => Some("polls"),
+            SchemaFault::Holds => Some("holds"),
+            SchemaFault::Outcomes => Some("outcomes"),
+            SchemaFault::Intervals => Some("intervals"),
+            SchemaFault::Replies => Some("replies"),
+            SchemaFault::Ranges => Some("ranges"),
+            SchemaFault::Voids => Some("voids"),
+            SchemaFault::Objects => None,
+        }
+    }
 }
 
 /// The indexes that SQLite creates for the keys of the program's tables, in the order of their
@@ -96,8 +132,9 @@ fn are_program_indexes(indexes: &[Index]) -> bool
 fn check_schema(schema: &Schema) -> Result<(), SchemaFault>
     ensures same { OnOk result (schema.now ≡ books_schema) }
     ensures other { IfErr result (λ fault. schema.now ≢ books_schema) }
+    ensures named { IfErr result (NamesDifference schema.now.tables) }
 {
-    check_tables(schema.tables.as_slice())?;
+    check_program_tables(schema.tables.as_slice())?;
     if are_program_indexes(schema.indexes.as_slice()) && schema.views.is_empty() {
         Ok(())
     } else {
@@ -105,14 +142,15 @@ fn check_schema(schema: &Schema) -> Result<(), SchemaFault>
     }
 }
 
-/// Returns Ok if and only if a database has the schema that the program creates in a new file. With
-/// this schema, SQLite itself has checked the keys of all rows. The connection must have no open
-/// transaction.
+/// Returns Ok if and only if a database has the schema that the program creates in a new file. The
+/// error names the first table that differs. With the program's schema, SQLite itself has checked
+/// the keys of all rows. The connection must have no open transaction.
 pub fn check_definitions<S: Alter>(conn: &Connection<S>) -> Result<(), SchemaFault>
     requires { conn.now.in_transaction ≡ false }
     ensures ours { OnOk result ((content : Content) → HoldsRows S.Store conn.now content
         → HoldsTables S.Store conn.now content) }
     ensures other { IfErr result (λ fault. conn.now.schema ≢ books_schema) }
+    ensures named { IfErr result (NamesDifference conn.now.schema.tables) }
 {
     let _settled = conn.is_autocommit();
     check_schema(conn.schema())

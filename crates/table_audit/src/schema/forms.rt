@@ -1,4 +1,5 @@
 //! Short descriptions of the tables and indexes that the program creates.
+use crate::schema::SchemaFault;
 use sqlite_schema::schema::Kind;
 
 /// A column of a STRICT table: its name and type. It is NOT NULL and has no default.
@@ -12,11 +13,12 @@ pub struct KeyForm {
     pub parent_columns: &'static [&'static str],
 }
 
-/// A STRICT table. `tree` is the number of its B-tree, and `key` the index of its INTEGER PRIMARY
-/// KEY among the columns. `primary` and `uniques` are indices into a row, which begins with the
-/// rowid.
+/// A STRICT table. `fault` is the fault of a file in which this table differs. `tree` is the number
+/// of its B-tree, and `key` the index of its INTEGER PRIMARY KEY among the columns. `primary` and
+/// `uniques` are indices into a row, which begins with the rowid.
 #[derive(Clone, Copy)]
 pub struct TableForm {
+    pub fault: SchemaFault,
     pub name: &'static str,
     pub tree: u32,
     pub columns: &'static [ColumnForm],
