@@ -518,7 +518,7 @@ def behind():
     same("behind: status", run.child.wait(20), 1)
     time.sleep(0.3)
     same("behind: files", files_of(path), ["office.db"])
-    same("behind: it is told", (run.count("the system clock is before its last entry"), run.count("refused 3")), (1, 1))
+    same("behind: it is told", (run.count("the system clock is before its latest record"), run.count("refused 3")), (1, 1))
 
 
 def unwritable(name, spoil, mend, wanted, user=None):

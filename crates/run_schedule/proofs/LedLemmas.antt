@@ -37,7 +37,7 @@ reported_by_other file length name None own other = λ text is.
     ]
 
 -- If the file names of two periods (such as `2026-11`) are equal, then the two periods are equal.
-same_text : (file text other : List ℕ) → file_of file text ≡ file_of file other → text ≡ other
+pub same_text : (file text other : List ℕ) → file_of file text ≡ file_of file other → text ≡ other
 same_text file text other both =
     let fronts : stem_of file ++ codes "-" ++ text ≡ stem_of file ++ codes "-" ++ other = append_cancel_right _ _ (suffix_of file) both in
     append_cancel_left (stem_of file ++ codes "-") text other fronts

@@ -3,3 +3,4 @@ pub mod PeriodLemmas
 pub mod NameLemmas
 pub mod PeriodExamples
 pub mod LedLemmas
+pub mod FolderLemmas

@@ -13,8 +13,8 @@ pub use http_clients::{
     may_reply, needed_limit, place_at, replies_are_few, turns_go_round, wanted_descriptors,
 };
 pub use periods::{
-    ActivePeriod, Plan, file_of_period, last_round, next_try, nothing_goes_back, period_end,
-    period_of_file, period_until, plan_of,
+    ActivePeriod, Course, Plan, Rollover, active_period, course_at, file_of_period, last_round,
+    next_try, nothing_goes_back, period_end, period_of_file, period_until, periods_before, plan_of,
 };
 pub use timing::{
     CLIENT_SECONDS, MOST_EVERY, OnwardTime, Phase, RunTime, SteadyClock, Timing, next_due,

@@ -4,6 +4,7 @@ pub mod Ends
 pub mod Files
 pub mod Backups
 pub mod Carries
+pub mod Courses
 pub mod Joins
 pub mod Logs
 pub mod Recoveries

@@ -22,7 +22,9 @@ use std::alloc::Global;
 use std::io::Write;
 use store_tables::{Layout, RowFault, layout_of};
 use sun_points::Sink;
-use table_audit::{Findings, audit_tables, check_definitions, is_marked, write_findings};
+use table_audit::{
+    Findings, SchemaFault, audit_tables, check_definitions, is_marked, write_findings,
+};
 use table_seals::{FiledMeter, FiledOffice, Joining, append_joins, filed_meters};
 
 /// A reason why the audit of a database file failed.
@@ -34,7 +36,7 @@ pub enum AuditFault {
     Earlier,
     /// The tables, indexes, views or triggers of the database have another definition than the
     /// program's.
-    Schema,
+    Schema(SchemaFault),
     /// The table `meta` does not have one row with number 1, the present version and a time zone.
     Mark,
     /// No seal (digests of the records) can be computed: a row has an invalid value, or a name that
@@ -65,7 +67,7 @@ pub(crate) fn check_ours<S: Alter>(connection: &Connection<S>) -> Result<(), Aud
     ensures idle { OnOk result (connection.now.in_transaction ≡ false) }
     ensures ours { OnOk result ((content : Content) → HoldsRows S.Store connection.now content
         → HoldsTables S.Store connection.now content) }
-    ensures fault { IfErr result IsOfTables }
+    ensures fault { IfErr result (IsOfTables connection.now.schema) }
 {
     if !connection.is_autocommit() {
         return Err(AuditFault::NotOurs);
@@ -75,7 +77,7 @@ pub(crate) fn check_ours<S: Alter>(connection: &Connection<S>) -> Result<(), Aud
         Some(Layout::First | Layout::Second) => Err(AuditFault::Earlier),
         Some(Layout::Third) => match check_definitions(connection) {
             Ok(()) => Ok(()),
-            Err(_) => Err(AuditFault::Schema),
+            Err(fault) => Err(AuditFault::Schema(fault)),
         },
     }
 }

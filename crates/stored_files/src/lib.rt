@@ -6,6 +6,7 @@
 mod audits;
 mod backups;
 mod carries;
+mod courses;
 mod ends;
 mod files;
 mod joins;
@@ -19,6 +20,7 @@ pub use audits::{
 };
 pub use backups::{CopyFault, recovered_file, whole_file, whole_files};
 pub use carries::{CarryEnd, carry_stored, read_zone_text};
+pub use courses::{course_stored, request_bytes};
 pub use ends::{Ending, Failure, Named, ending_of, say};
 pub use files::{
     Databases, FileConnection, FileFault, LogHeader, check_beside, check_regular, is_bare,

@@ -25,11 +25,10 @@ fn opening_fault(fault: OpenFault) -> AuditFault {
     }
 }
 
-// Returns the latest timestamp of the records in a store.
-fn latest_in_books<S: Alter + Drop>(books: SqlBooks<S>) -> Result<u64, AuditFault>
-    ensures { IfOk result (IsLatestIn S.Store books) }
+/// Returns the latest timestamp of the records in a store, in seconds since 1970-01-01 UTC.
+pub(crate) fn latest_in_books<S: Alter + Drop>(books: &mut SqlBooks<S>) -> Result<u64, AuditFault>
+    ensures { IfOk result (IsLatestIn S.Store books.old) }
 {
-    let mut books = books;
     match books.latest() {
         Ok(latest) => Ok(latest),
         Err(_) => Err(AuditFault::Store),
@@ -45,7 +44,10 @@ pub fn latest_stored<S: Alter + Drop>(
         → IfOk result (HasLatest S.Store connection facts) }
 {
     match SqlBooks::open(alloc, connection) {
-        Ok(books) => latest_in_books(books),
+        Ok(books) => {
+            let mut books = books;
+            latest_in_books(&mut books)
+        }
         Err(unopened) => Err(opening_fault(unopened.fault)),
     }
 }

@@ -169,8 +169,16 @@ impl<'a> Display for Failure<'a> {
             }
             Failure::Unaudited { path, fault } => {
                 let path = Named(*path);
-                write!(f, "{path}: ")?;
-                f.write_str(why_unaudited(*fault))
+                match other_table(*fault) {
+                    Some(table) => write!(
+                        f,
+                        "{path}: its table {table} is not that of sunreg: use an intact copy or a backup"
+                    ),
+                    None => {
+                        write!(f, "{path}: ")?;
+                        f.write_str(why_unaudited(*fault))
+                    }
+                }
             }
             Failure::Unconnected { host, port } => write!(
                 f,
@@ -228,6 +236,15 @@ fn why_unopened(fault: OpenFault) -> &'static str {
     }
 }
 
+// Returns the name of the table whose definition differs, if this is why a file could not be
+// audited.
+fn other_table(fault: AuditFault) -> Option<&'static str> {
+    match fault {
+        AuditFault::Schema(fault) => fault.table(),
+        _ => None,
+    }
+}
+
 // Returns the part of a message that says why a file could not be audited, and what to do.
 fn why_unaudited(fault: AuditFault) -> &'static str {
     match fault {
@@ -235,7 +252,7 @@ fn why_unaudited(fault: AuditFault) -> &'static str {
             "not an office file, or made by a later version of sunreg: use the office file or a backup",
         AuditFault::Earlier =>
             "made by an earlier version of sunreg: open it, or a backup of it, once with sunreg report",
-        AuditFault::Schema =>
+        AuditFault::Schema(_) =>
             "its tables, indexes, views or triggers are not those of sunreg: use an intact copy or a backup",
         AuditFault::Mark =>
             "its table meta does not have exactly one row with id 1, version 3 and a time zone: use an intact copy or a backup",

@@ -1,0 +1,72 @@
+//! Decides what the command `run --carry` does with its current file at a given time, and when it
+//! decides again.
+ghost use Rattle.std.specs.Prelude.{◌≤◌};
+ghost use Rattle.run_schedule.specs.Periods.Courses.{IsCourse, IsCourseOn};
+
+use crate::periods::plans::{Plan, next_try, period_until, plan_of};
+use energy_report::{Period, period_name};
+use interval_core::{Day, LAST_MOMENT, Zone, day_of};
+use script_text::Line;
+
+/// The options of `run --carry`: it begins a new file each `period` (month or year), and polls
+/// devices every `every` seconds.
+#[derive(Clone, Copy)]
+pub struct Rollover {
+    pub period: Period,
+    pub every: u64,
+}
+
+/// What `run --carry` does with its current file. `until` is the time at which it decides again, in
+/// seconds since 1970-01-01 UTC, or `None` if it never does.
+#[derive(Drop)]
+pub enum Course {
+    /// The command keeps using the file.
+    Stay { until: Option<u64> },
+    /// The command keeps using the file, whose period is later than the clock's period.
+    StayAhead { until: Option<u64> },
+    /// The command keeps using the file for now: the file's period is over, but its last entry is
+    /// later than the clock.
+    Wait { until: Option<u64> },
+    /// The command continues all meters in the new file of `period`, such as `2026-11`.
+    Carry { period: Line, until: Option<u64> },
+}
+
+// Decides what to do with the current file on the day of a given time.
+fn course_on(
+    zone: &Zone,
+    by: Rollover,
+    led: Option<&[u8]>,
+    last_entry: u64,
+    day: Day,
+    now: u64,
+) -> Course
+    ensures { IsCourseOn zone.now by led.entry last_entry day now result }
+{
+    let period = period_name(by.period, day);
+    let until = period_until(zone, by.period, day, by.every, now);
+    match plan_of(led, period.bytes(), last_entry, now) {
+        Plan::Stay => Course::Stay { until },
+        Plan::StayAhead => Course::StayAhead { until },
+        Plan::Wait => {
+            Course::Wait {
+                until: next_try(by.every, now),
+            }
+        }
+        Plan::Carry => Course::Carry { period, until },
+    }
+}
+
+/// Decides what `run --carry` does with its current file at the time `now`. `led` is the period in
+/// the file's name, or `None` if the name has no period. `last_entry` is the time of the file's
+/// last entry. After `LAST_MOMENT`, the program stays in its file.
+pub fn course_at(zone: &Zone, by: Rollover, led: Option<&[u8]>, last_entry: u64, now: u64) -> Course
+    ensures { IsCourse zone.now by led.entry last_entry now result }
+{
+    if LAST_MOMENT < now {
+        return Course::Stay { until: None };
+    }
+    match day_of(zone, now) {
+        Ok(day) => course_on(zone, by, led, last_entry, day, now),
+        Err(_) => Course::Stay { until: None },
+    }
+}
