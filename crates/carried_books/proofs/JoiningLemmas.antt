@@ -5,6 +5,9 @@ pub mod Reports
 pub mod Offices
 pub mod Keeping
 pub mod Earlier
+pub mod Unrecorded
+pub mod Recorded
+pub mod Collected
 pub mod KeptMeters
 pub mod Statements
 pub mod OneFile

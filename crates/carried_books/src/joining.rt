@@ -24,7 +24,7 @@ pub use files::{JoinedFiles, Unjoined, add_books, no_files};
 pub use keeping::Keeping;
 pub use kept_meters::KeptMeter;
 pub use laws::{
-    both_files_state_the_joined_meter, days_of_one_file_are_its_own,
+    both_files_state_the_joined_meter, collected_days_are_sums, days_of_one_file_are_its_own,
     joined_days_agree_with_both_files, latest_is_of_all_files, one_file_states_its_meters,
 };
 pub use meters::Apart;

@@ -1,15 +1,26 @@
--- An accounting register (a named counter) in earlier database files, and the comparison of the
--- current database file with these files.
-use Rattle.std.specs.Prelude.{◌≡◌, ℕ, Bool, true, false, List, Option, Some, None, bytes_eq}
-use Rattle.std.specs.List.{list_any}
+-- Defines which accounting registers (named counters) are collected from earlier database files,
+-- and how the current database file is compared with these files.
+use Rattle.std.specs.Prelude.{◌≡◌, ◌≢◌, ◌⊎◌, ℕ, Bool, true, false, List, [], ◌∷◌, All, Contains, Option, Some, None, bytes_eq}
+use Rattle.std.specs.List.{AllPairs, list_any}
 use Rattle.interval_core.specs.Fold.{FoldState}
+use Rattle.interval_core.specs.declared.zone.Zone.{Zone}
+use Rattle.office_events.specs.declared.facts.Device.{Device}
 use Rattle.office_events.specs.declared.facts.Fact.{Fact}
+use Rattle.office_events.specs.declared.facts.Register.{Register}
 use Rattle.office_events.specs.declared.questions.Installation.{Installation}
 use Rattle.office_books.specs.Entries.{installations_of}
-use Rattle.carried_books.specs.Joining.Files.{is_recorded}
+use Rattle.office_books.specs.Facts.{registers_of}
+use Rattle.office_books.specs.Lawful.{AreLawful}
+use Rattle.office_books.specs.declared.spans.Span.TheVariants as span
+use Rattle.carried_books.specs.Joining.Days.{AreSumOf}
+use Rattle.carried_books.specs.Joining.Files.{AllJoin, DoesNotJoin, HasJoined, is_recorded, is_recorded_in, rows_over}
 use Rattle.carried_books.specs.Joining.Meters.{AddMeters, AreApart}
+use Rattle.carried_books.specs.declared.joining.days.EarlierDays.{EarlierDays}
 use Rattle.carried_books.specs.declared.joining.earlier.EarlierRegister.{EarlierRegister}
+use Rattle.carried_books.specs.declared.joining.keeping.Keeping as keepings
 use Rattle.carried_books.specs.declared.joining.earlier.KeptRegister.{KeptRegister}
+use Rattle.carried_books.specs.declared.joining.earlier.KeptRegisters.{KeptRegisters}
+use Rattle.carried_books.specs.declared.joining.files.JoinedFiles.{JoinedFiles}
 use Rattle.carried_books.specs.declared.joining.files.Unjoined.{Unjoined}
 use Rattle.carried_books.specs.declared.joining.files.Unjoined.TheVariants as unjoined
 
@@ -34,10 +45,137 @@ kept_as kept = record {
   days = kept.files.days.fold;
 }
 
+-- The accounting registers (named counters) that were collected from several database files.
+abbrev pub registers_in : KeptRegisters → List KeptRegister
+registers_in kept = kept.kept.items
+
+-- States that `copy` has the name, the meters and the flag `is_recorded` of the collected
+-- accounting register `one` (a named counter).
+pub record IsCopy (one copy : KeptRegister) : Type 0 where
+  pub name : copy.name ≡ one.name
+  pub recorded : copy.files.is_recorded ≡ one.files.is_recorded
+  pub meters : copy.files.meters.items ≡ one.files.meters.items
+
 -- Whether an accounting register (a named counter) with this name was collected from an earlier
 -- database file.
 abbrev pub is_kept : (name : List ℕ) → List KeptRegister → Bool
 is_kept name kept = list_any (λ one. bytes_eq one.name name) kept
+
+-- The collected accounting registers (named counters) `kept` have the data of all database files in
+-- `files`, and each of them is recorded in one of these files.
+--
+-- Each register that a file in `named` records was collected, and no two collected registers have
+-- the same name.
+pub record Collects (zone : Zone) (named files : List (List Fact)) (kept : List KeptRegister) :
+    Type 0 where
+  pub each : All (λ (one : KeptRegister). HasJoined zone span.All one.name files one.files) kept
+  pub only : All (λ (one : KeptRegister). is_recorded_in one.name files ≡ true) kept
+  pub complete : (name : List ℕ) → is_recorded_in name named ≡ true → is_kept name kept ≡ true
+  pub once : AllPairs (λ (a b : KeptRegister). a.name ≢ b.name) kept
+
+-- The collected accounting registers (named counters) `kept` are exactly those of the database
+-- files in `files`. Each register that a file records was collected once, and has the data of all
+-- the files.
+abbrev pub HasRegisters : Zone → (files : List (List Fact)) → (kept : List KeptRegister) → Type 0
+HasRegisters zone files kept = Collects zone files files kept
+
+-- Adding a database file with the records `facts` changed the collected accounting registers (named
+-- counters) from `old` to `new`. If `old` has the registers of the earlier files, then `new` has
+-- the registers of the earlier files and the added file.
+--
+-- All files must be lawful: the rules accept each record of a file after the earlier ones. Lists of
+-- files have the latest file first.
+abbrev pub AddsFile : Zone → (facts : List Fact) → (old new : List KeptRegister) → Type 0
+AddsFile zone facts old new = (files : List (List Fact)) → All AreLawful (facts ∷ files)
+    → HasRegisters zone files old → HasRegisters zone (facts ∷ files) new
+
+-- A collected accounting register (a named counter) `old` became `new` when a database file with
+-- the records `facts` was added. If `old` has the data of the earlier files, then `new` has the
+-- data of the earlier files and the added file.
+pub record HasNext (facts : List Fact) (old new : KeptRegister) : Type 0 where
+  pub name : new.name ≡ old.name
+  pub files : AllJoin span.All old.name facts old.files new.files None
+
+-- Registers (named counters) of a database file with the records `facts` were appended to the
+-- collected registers `old`, which yields `new`.
+--
+-- If each register in `old` has the data of the earlier files and of this file, then each register
+-- in `new` has these data too. The earlier files must be lawful.
+pub record AddsMore (zone : Zone) (facts : List Fact) (old new : List KeptRegister) : Type 0 where
+  pub adds : (files : List (List Fact)) → All AreLawful files
+      → Collects zone files (facts ∷ files) old → Collects zone files (facts ∷ files) new
+  pub stays : (name : List ℕ) → is_kept name old ≡ true → is_kept name new ≡ true
+
+-- True if the database file with the records `facts` records each accounting register (a named
+-- counter) in the list `registers`.
+abbrev pub AreRecorded : (registers : List Register) → (facts : List Fact) → Type 0
+AreRecorded registers facts = All (λ (it : Register). is_recorded it.name facts ≡ true) registers
+
+-- True if each accounting register (a named counter) in the list `registers` is among the collected
+-- registers.
+abbrev pub AreKept : (registers : List Register) → List KeptRegister → Type 0
+AreKept registers kept = All (λ (it : Register). is_kept it.name kept ≡ true) registers
+
+-- Those accounting registers (named counters) in `registers` that had not been collected were
+-- appended to the collected registers `old`, with their data in the database file `facts`.
+pub record AddsRegisters (zone : Zone) (facts : List Fact) (registers : List Register)
+    (old new : List KeptRegister) : Type 0 where
+  pub more : AddsMore zone facts old new
+  pub listed : AreKept registers new
+
+-- The accounting registers (named counters) of the devices in `devices` were appended to the
+-- collected registers `old`, with their data in the database file `facts`. Registers that had been
+-- collected before were not appended again.
+pub record AddsDevices (zone : Zone) (facts : List Fact) (devices : List Device)
+    (old new : List KeptRegister) : Type 0 where
+  pub more : AddsMore zone facts old new
+  pub listed : All (λ (it : Device). AreKept (registers_of facts it.name) new) devices
+
+-- The database file with the records `facts` does not continue the data of one of the collected
+-- accounting registers (named counters), for the reason `why`.
+pub record KeptDoesNotJoin (facts : List Fact) (kept : List KeptRegister) (why : Unjoined) :
+    Type 0 where
+  pub one : KeptRegister
+  pub among : Contains kept one
+  pub parts : DoesNotJoin span.All one.name facts one.files why
+
+-- The database file with the records `facts` has an accounting register (a named counter) that was
+-- not collected from the earlier files. The data of this register cannot be added for the reason
+-- `why`. Here `none` has the data of an empty list of files, so the reason lies in the file itself.
+pub record NewDoesNotJoin (zone : Zone) (facts : List Fact) (kept : List KeptRegister)
+    (why : Unjoined) : Type 0 where
+  pub name : List ℕ
+  pub recorded : is_recorded name facts ≡ true
+  pub new : is_kept name kept ≡ false
+  pub none : JoinedFiles
+  pub empty : HasJoined zone span.All name [] none
+  pub parts : DoesNotJoin span.All name facts none why
+
+-- The database file with the records `facts` cannot be added to the collected accounting registers
+-- (named counters). For one register, the file does not continue the earlier files, for the reason
+-- `why`.
+abbrev pub FileDoesNotJoin : Zone → (facts : List Fact) → List KeptRegister → Unjoined → Type 0
+FileDoesNotJoin zone facts kept why =
+    KeptDoesNotJoin facts kept why ⊎ NewDoesNotJoin zone facts kept why
+
+-- The theorem that the energies by day of a collected accounting register (a named counter) are the
+-- sum of the register's quarter hours in all database files that were added.
+abbrev pub CollectedDaysAreSums : Type 0
+CollectedDaysAreSums = (zone : Zone) (files : List (List Fact)) (kept : List KeptRegister)
+    (one : KeptRegister) (days : EarlierDays)
+    → HasRegisters zone files kept → Contains kept one → days.fold ≡ one.files.days.fold
+    → AreSumOf zone (rows_over one.name files) days
+
+-- States what the collected accounting registers (named counters) contain after database files were
+-- added, and why a file cannot be added. This is the model of `KeptRegisters` for the trait
+-- `Keeping`.
+abbrev pub registers_kept : keepings.Ghosts KeptRegisters
+registers_kept = record {
+  keeps = λ zone range register files kept.
+      (kept.zone ≡ zone) × (All AreLawful files → HasRegisters zone files (registers_in kept));
+  parts = λ range register facts kept why.
+      FileDoesNotJoin kept.zone facts (registers_in kept) why;
+}
 
 -- The result `None` means that the new file's meters of this register (a named counter) continue or
 -- follow those of the earlier database files. Any other result has two meters that conflict.
@@ -59,3 +197,11 @@ HoldsFile kept facts None =
 HoldsFile kept facts (Some unjoined.NotRecorded) =
     (kept.files.is_recorded ≡ true) × (is_recorded kept.name facts ≡ false)
 HoldsFile kept facts (Some why) = HoldMeters kept facts (Some why)
+
+-- The result `None` means that the new file continues the earlier files for each of the collected
+-- accounting registers (named counters). Any other result is the reason why the file does not
+-- continue them for one of these registers.
+abbrev pub HoldAll : List KeptRegister → List Fact → Option Unjoined → Type 0
+HoldAll kept facts None = All (λ (one : KeptRegister). HoldsFile one facts None) kept
+HoldAll kept facts (Some why) =
+    (one : KeptRegister) × Contains kept one × HoldsFile one facts (Some why)

@@ -1,14 +1,24 @@
 //! Collects the accounting registers (named counters) of earlier database files, so that the
 //! running program can report energy over all files.
-ghost use Rattle.std.specs.Prelude.{◌≡◌, ◌++◌, ◌∷◌, [], List, None, map, true, IfErr, IfOk, OnOk};
+ghost use Rattle.std.specs.Prelude.{◌≡◌, ◌++◌, ◌∷◌, [], List, None, map, reverse, true};
+ghost use Rattle.std.specs.Prelude.{IfErr, IfOk, OnOk};
+ghost use Rattle.std.specs.List.{AllZip};
 ghost use Rattle.office_events.specs.declared.facts.Fact.{Fact};
+ghost use Rattle.office_books.specs.Facts.{devices_in, registers_of};
 ghost use Rattle.office_books.specs.Ledgers.{Consults};
 ghost use Rattle.office_books.specs.declared.faults.BooksFault.TheVariants.{Memory};
-ghost use Rattle.office_books.specs.declared.spans.Span.TheVariants.{All};
-ghost use Rattle.carried_books.specs.Joining.Files.{AllJoin};
-ghost use Rattle.carried_books.specs.Joining.Earlier.{HoldMeters, HoldsFile, is_kept, kept_as, reported};
+ghost use Rattle.office_books.specs.declared.spans.Span.TheVariants as span;
+ghost use Rattle.carried_books.specs.Joining.Files as files;
+ghost use Rattle.carried_books.specs.Joining.Files.{AllJoin, DoesNotJoin};
+ghost use Rattle.carried_books.specs.Joining.Keeping.{PartsFile};
+ghost use Rattle.carried_books.specs.Joining.Earlier.{AddsDevices, AddsFile, AddsMore};
+ghost use Rattle.carried_books.specs.Joining.Earlier.{AddsRegisters, AreRecorded};
+ghost use Rattle.carried_books.specs.Joining.Earlier.{FileDoesNotJoin, HasNext};
+ghost use Rattle.carried_books.specs.Joining.Earlier.{HoldAll, HoldMeters, HoldsFile, is_kept};
+ghost use Rattle.carried_books.specs.Joining.Earlier.{KeptDoesNotJoin, NewDoesNotJoin};
+ghost use Rattle.carried_books.specs.Joining.Earlier.{IsCopy, kept_as, registers_in, reported};
 
-use crate::joining::days::EarlierDays;
+use crate::joining::days::{EarlierDays, JoinedDays};
 use crate::joining::files::{JoinedFiles, Unjoined, add_books, is_recorded, join_meters, no_files};
 use crate::joining::keeping::Keeping;
 use crate::joining::meters::both;
@@ -62,7 +72,10 @@ pub fn add_next_file<B: Books>(
     ensures name { kept.new.name ≡ kept.old.name }
     ensures joins { (known : List Fact) → (B.ledger books.old).holds known
         → (B.ledger books.new).is_clean
-        → IfOk result (AllJoin All kept.old.name known kept.old.files kept.new.files) }
+        → IfOk result (AllJoin span.All kept.old.name known kept.old.files kept.new.files) }
+    ensures unjoined { (known : List Fact) → (B.ledger books.old).holds known
+        → (B.ledger books.new).is_clean
+        → IfOk result (PartsFile (DoesNotJoin span.All kept.old.name known kept.old.files)) }
     ensures reads { Consults (B.ledger books.old) (B.ledger books.new) result }
 {
     let name = kept.name;
@@ -138,7 +151,14 @@ fn add_all<B: Books>(
     kept: &mut Vec<KeptRegister>,
     books: &mut B,
 ) -> Result<Option<Unjoined>, BooksFault>
-    ensures { Consults (B.ledger books.old) (B.ledger books.new) result }
+    ensures joins { (known : List Fact) → (B.ledger books.old).holds known
+        → (B.ledger books.new).is_clean
+        → IfOk result (λ why. why ≡ None
+        → AllZip (HasNext known) kept.old.items kept.new.items) }
+    ensures unjoined { (known : List Fact) → (B.ledger books.old).holds known
+        → (B.ledger books.new).is_clean
+        → IfOk result (PartsFile (KeptDoesNotJoin known kept.old.items)) }
+    ensures reads { Consults (B.ledger books.old) (B.ledger books.new) result }
 {
     for place in 0..kept.len() {
         if place < kept.len() {
@@ -161,7 +181,10 @@ fn compare_all<B: Books>(
     kept: &[KeptRegister],
     books: &mut B,
 ) -> Result<Option<Unjoined>, BooksFault>
-    ensures { Consults (B.ledger books.old) (B.ledger books.new) result }
+    ensures holds { (known : List Fact) → (B.ledger books.old).holds known
+        → (B.ledger books.new).is_clean
+        → IfOk result (HoldAll kept.now known) }
+    ensures reads { Consults (B.ledger books.old) (B.ledger books.new) result }
 {
     for one in kept {
         match compare_file(one, books) {
@@ -196,7 +219,14 @@ fn add_new<B: Books>(
     name: Name,
 ) -> Result<Option<Unjoined>, BooksFault>
     ensures kept { IfOk result (λ why. why ≡ None → is_kept name kept.new.items ≡ true) }
-    ensures asks { Consults (B.ledger books.old) (B.ledger books.new) result }
+    ensures adds { (known : List Fact) → (B.ledger books.old).holds known
+        → (B.ledger books.new).is_clean → files.is_recorded name known ≡ true
+        → IfOk result (λ why. why ≡ None
+        → AddsMore zone known kept.old.items kept.new.items) }
+    ensures unjoined { (known : List Fact) → (B.ledger books.old).holds known
+        → (B.ledger books.new).is_clean → files.is_recorded name known ≡ true
+        → IfOk result (PartsFile (NewDoesNotJoin zone known kept.old.items)) }
+    ensures reads { Consults (B.ledger books.old) (B.ledger books.new) result }
 {
     if is_kept(kept.as_slice(), &name) {
         return Ok(None);
@@ -227,7 +257,14 @@ fn add_registers<B: Books>(
     books: &mut B,
     registers: &[Register],
 ) -> Result<Option<Unjoined>, BooksFault>
-    ensures { Consults (B.ledger books.old) (B.ledger books.new) result }
+    ensures adds { (known : List Fact) → (B.ledger books.old).holds known
+        → (B.ledger books.new).is_clean → AreRecorded registers.now known
+        → IfOk result (λ why. why ≡ None
+        → AddsRegisters zone known registers.now kept.old.items kept.new.items) }
+    ensures unjoined { (known : List Fact) → (B.ledger books.old).holds known
+        → (B.ledger books.new).is_clean → AreRecorded registers.now known
+        → IfOk result (PartsFile (NewDoesNotJoin zone known kept.old.items)) }
+    ensures reads { Consults (B.ledger books.old) (B.ledger books.new) result }
 {
     for register in registers {
         match add_new(alloc, zone, kept, books, register.name) {
@@ -251,7 +288,15 @@ fn add_device<B: Books>(
     books: &mut B,
     device: &Device,
 ) -> Result<Option<Unjoined>, BooksFault>
-    ensures { Consults (B.ledger books.old) (B.ledger books.new) result }
+    ensures adds { (known : List Fact) → (B.ledger books.old).holds known
+        → (B.ledger books.new).is_clean
+        → IfOk result (λ why. why ≡ None
+        → AddsRegisters zone known (registers_of known device.now.name) kept.old.items
+        kept.new.items) }
+    ensures unjoined { (known : List Fact) → (B.ledger books.old).holds known
+        → (B.ledger books.new).is_clean
+        → IfOk result (PartsFile (NewDoesNotJoin zone known kept.old.items)) }
+    ensures reads { Consults (B.ledger books.old) (B.ledger books.new) result }
 {
     match books.registers(&device.name) {
         Err(fault) => Err(fault),
@@ -268,7 +313,14 @@ fn add_devices<B: Books>(
     books: &mut B,
     devices: &[Device],
 ) -> Result<Option<Unjoined>, BooksFault>
-    ensures { Consults (B.ledger books.old) (B.ledger books.new) result }
+    ensures adds { (known : List Fact) → (B.ledger books.old).holds known
+        → (B.ledger books.new).is_clean
+        → IfOk result (λ why. why ≡ None
+        → AddsDevices zone known devices.now kept.old.items kept.new.items) }
+    ensures unjoined { (known : List Fact) → (B.ledger books.old).holds known
+        → (B.ledger books.new).is_clean
+        → IfOk result (PartsFile (NewDoesNotJoin zone known kept.old.items)) }
+    ensures reads { Consults (B.ledger books.old) (B.ledger books.new) result }
 {
     for device in devices {
         match add_device(alloc, zone, kept, books, device) {
@@ -291,7 +343,14 @@ fn add_others<B: Books>(
     kept: &mut Vec<KeptRegister>,
     books: &mut B,
 ) -> Result<Option<Unjoined>, BooksFault>
-    ensures { Consults (B.ledger books.old) (B.ledger books.new) result }
+    ensures adds { (known : List Fact) → (B.ledger books.old).holds known
+        → (B.ledger books.new).is_clean
+        → IfOk result (λ why. why ≡ None
+        → AddsDevices zone known (reverse (devices_in known)) kept.old.items kept.new.items) }
+    ensures unjoined { (known : List Fact) → (B.ledger books.old).holds known
+        → (B.ledger books.new).is_clean
+        → IfOk result (PartsFile (NewDoesNotJoin zone known kept.old.items)) }
+    ensures reads { Consults (B.ledger books.old) (B.ledger books.new) result }
 {
     match books.devices() {
         Err(fault) => Err(fault),
@@ -307,7 +366,14 @@ fn add_books_to<B: Books>(
     kept: &mut Vec<KeptRegister>,
     books: &mut B,
 ) -> Result<Option<Unjoined>, BooksFault>
-    ensures { Consults (B.ledger books.old) (B.ledger books.new) result }
+    ensures joins { (known : List Fact) → (B.ledger books.old).holds known
+        → (B.ledger books.new).is_clean
+        → IfOk result (λ why. why ≡ None
+        → AddsFile zone known kept.old.items kept.new.items) }
+    ensures unjoined { (known : List Fact) → (B.ledger books.old).holds known
+        → (B.ledger books.new).is_clean
+        → IfOk result (PartsFile (FileDoesNotJoin zone known kept.old.items)) }
+    ensures reads { Consults (B.ledger books.old) (B.ledger books.new) result }
 {
     match add_all(kept, books) {
         Err(fault) => Err(fault),
@@ -320,12 +386,58 @@ fn add_books_to<B: Books>(
     }
 }
 
+// Returns a copy of the name and the meters of a collected accounting register (a named counter),
+// without its energy.
+fn copy_of(alloc: Global, zone: Zone, one: &KeptRegister) -> Result<KeptRegister, AllocError>
+    ensures { IfOk result (IsCopy one.now) }
+{
+    let meters = one.files.meters.as_slice().to_vec(alloc)?;
+    Ok(KeptRegister {
+        name: one.name,
+        files: JoinedFiles {
+            is_recorded: one.files.is_recorded,
+            meters,
+            days: JoinedDays::new(alloc, zone),
+        },
+    })
+}
+
+// Returns copies of the names and the meters of collected accounting registers (named counters).
+fn copies_of(
+    alloc: Global,
+    zone: Zone,
+    kept: &[KeptRegister],
+) -> Result<Vec<KeptRegister>, AllocError>
+    ensures { IfOk result (λ copies. AllZip IsCopy kept.now copies.items) }
+{
+    let mut copies = Vec::new(alloc);
+    for one in kept {
+        copies.push(copy_of(alloc, zone, one)?)?;
+    }
+    Ok(copies)
+}
+
 impl KeptRegisters {
+    /// Returns a copy of the names and the meters of the accounting registers (named counters). The
+    /// running program's database file can be compared with this copy.
+    pub fn compared(&self) -> Result<ComparedRegisters, AllocError>
+        ensures { IfOk result (λ held. AllZip IsCopy self.now.kept.items held.kept.kept.items) }
+    {
+        let kept = copies_of(self.alloc, self.zone, self.kept.as_slice())?;
+        Ok(ComparedRegisters {
+            kept: KeptRegisters {
+                alloc: self.alloc,
+                zone: self.zone,
+                kept,
+            },
+        })
+    }
+
     /// Returns the accounting registers (named counters) that were collected from several database
     /// files, in the order in which the files first had them.
     pub fn into_registers(self) -> Result<Vec<EarlierRegister>, AllocError>
         ensures { IfOk result (λ registers. map reported registers.items
-            ≡ map kept_as self.kept.items) }
+            ≡ map kept_as (registers_in self)) }
     {
         let KeptRegisters { alloc, kept, .. } = self;
         let mut registers = Vec::new(alloc);
@@ -338,12 +450,19 @@ impl KeptRegisters {
 
 /// Collects all accounting registers (named counters) of the database files, whichever register and
 /// range were requested.
+///
+/// If the rules accept each record of the files after the earlier records, then the collected
+/// registers are exactly those of the files.
 impl Keeping for KeptRegisters {
-    ghost use Rattle.std.specs.Prelude.{◌≡◌};
+    ghost use Rattle.std.specs.Prelude.{◌≡◌, All};
+    ghost use Rattle.office_books.specs.Lawful.{AreLawful};
+    ghost use Rattle.carried_books.specs.Joining.Earlier.{FileDoesNotJoin, HasRegisters};
 
-    ghost keeps = { λ zone range register files kept. kept.zone ≡ zone };
+    ghost keeps = { λ zone range register files kept. (kept.zone ≡ zone)
+        × (All AreLawful files → HasRegisters zone files kept.kept.items) };
 
-    ghost parts = { λ range register facts kept why. Unit {0} };
+    ghost parts = { λ range register facts kept why.
+        FileDoesNotJoin kept.zone facts kept.kept.items why };
 
     fn none(alloc: Global, zone: Zone, _range: DayRange) -> KeptRegisters {
         KeptRegisters {
@@ -372,12 +491,18 @@ pub struct ComparedRegisters {
 
 /// Compares a database file with all accounting registers (named counters), whichever register and
 /// range were requested. Adds no data of the file to those of the earlier files.
+///
+/// Here `files` in `keeps` are the files that were compared. Each of these files continues the
+/// collected data.
 impl Keeping for ComparedRegisters {
-    ghost use Rattle.std.specs.Prelude.{◌≡◌};
+    ghost use Rattle.std.specs.Prelude.{◌≡◌, All, None, Some};
+    ghost use Rattle.carried_books.specs.Joining.Earlier.{HoldAll};
 
-    ghost keeps = { λ zone range register files held. held.kept.zone ≡ zone };
+    ghost keeps = { λ zone range register files held. (held.kept.zone ≡ zone)
+        × All (λ facts. HoldAll held.kept.kept.items facts None) files };
 
-    ghost parts = { λ range register facts held why. Unit {0} };
+    ghost parts = { λ range register facts held why.
+        HoldAll held.kept.kept.items facts (Some why) };
 
     fn none(alloc: Global, zone: Zone, range: DayRange) -> ComparedRegisters {
         ComparedRegisters {

@@ -3,6 +3,7 @@
 //!
 //! The contract of each function states a theorem. The body of the function is empty or calls other
 //! theorems.
+ghost use Rattle.carried_books.specs.Joining.Earlier.{CollectedDaysAreSums};
 ghost use Rattle.carried_books.specs.Joining.Reports.{BothFilesTellTheJoinedDays};
 ghost use Rattle.carried_books.specs.Joining.Reports.{OneFileReportsItsDays};
 ghost use Rattle.carried_books.specs.Joining.Sites.{LatestIsOfAllFiles};
@@ -52,3 +53,9 @@ pub fn latest_is_of_all_files()
 {
     names_are_distinct();
 }
+
+/// Proves that the energies by day of a collected accounting register (a named counter) are the sum
+/// of the register's quarter hours in all database files that were added.
+pub fn collected_days_are_sums()
+    ensures { CollectedDaysAreSums }
+{}
