@@ -42,7 +42,7 @@ CHECKS = [
     Check("statuses", "statuses.sh", 52, 120, ""),
     Check("zones", "zones.py PROGRAM", 650, 120, "tzdata"),
     Check("arguments", "arguments.py", 150, 120, ""),
-    Check("words", "words.sh", 299, 120, ""),
+    Check("words", "words.sh", 298, 120, ""),
     Check("manual", "words.sh --man", 19, 60, "man groff"),
     Check("build_identity", "build_identity.py PROGRAM", 36, 60, ""),
     Check("scan", "scan.sh", 17, 120, ""),

@@ -1,11 +1,13 @@
 -- Lemmas on the audit of a database file: on successive steps of an audit, and on what an audit
 -- prints and how the command ends.
-use Rattle.std.proofs.Common.{◌≡◌, ◌↔◌, ◌⊎◌, inl, inr, ℕ, Bool, true, false, List, [], ◌∷◌, ◌++◌, ◌&&◌, Option, Some, None, Vec, option_map, sym, ◌≤◌, length, get_or, drop, take, ◌-◌, arith, subst, Result, Ok, Err, IfOk, OnOk, IsTrue, refl}
+use Rattle.std.proofs.Common.{◌≡◌, ◌↔◌, inl, inr, ℕ, Bool, true, false, List, [], ◌∷◌, ◌++◌, ◌&&◌, Option, Some, None, Vec, option_map, sym, ◌≤◌, length, get_or, drop, take, ◌-◌, arith, subst, Result, Ok, Err, IfOk, OnOk, IsTrue, refl, ap, ◌∙◌, not, bytes_eq}
+use Rattle.std.specs.List.{list_any}
+use Rattle.std.specs.Option.{MatchOption}
 use Rattle.std.specs.Borrow.{Bor}
 use Rattle.std.specs.Io.KnownBytes.{Appends}
 use Rattle.std.proofs.lemmas.List.{take_all}
 use Rattle.sqlite.specs.Store.{Ghosts}
-use Rattle.sqlite.specs.Held.{Held, state}
+use Rattle.sqlite.specs.Held.{Held}
 use Rattle.store_tables.specs.Content.{Content}
 use Rattle.table_audit.specs.FileMark.{ReportsMark}
 use Rattle.table_audit.specs.Looking.{HoldsRows, HoldsTables, OnlyLooks}
@@ -23,14 +25,14 @@ use Rattle.table_seals.specs.Joins.{after_next, joins_after, known_as, known_of}
 use Rattle.table_seals.specs.JoinTexts.{joined_text, lines_of, texts_of}
 use Rattle.table_seals.specs.declared.filed.FiledMeter.{FiledMeter}
 use Rattle.table_seals.specs.declared.joining.Joining.{Joining}
-use Rattle.file_commands.specs.JoinedAudits.{AuditsPath, AuditsPaths, AuditsSeveral, EndsSeveral, FindsDifferent, FindsJoined, JoinsNext}
+use Rattle.file_commands.specs.JoinedAudits.{are_apart, AuditsPath, AuditsPaths, AuditsSeveral, EndsSeveral, FindsDifferent, FindsJoined, JoinsNext}
 use Rattle.command_words.specs.declared.line.Sealing.{Sealing}
 use Rattle.command_words.specs.declared.line.Sealing.TheVariants.{Nothing, Print, Against}
 use Rattle.stored_files.specs.declared.audits.AuditFault.{AuditFault}
 use Rattle.stored_files.specs.declared.ends.ending.Ending.{Ending}
 use Rattle.stored_files.specs.declared.ends.ending.Ending.TheVariants.{Fine, Refused, Wrong, NoText, NoZone, NoDay, Backward, NoSeal, Twice, Failed}
 use Rattle.stored_files.specs.declared.ends.failure.Failure.{Failure}
-use Rattle.file_commands.specs.Audits.{Audits, AuditsAgainst, AuditsAs, AuditsFile, AuditsTables, EndsAudit, FindsNone, PrintsChecked, PrintsDifferences, PrintsFindings, PrintsSeal, ending_of_audit}
+use Rattle.file_commands.specs.Audits.{Audits, AuditsAs, AuditsFile, AuditsTables, EndsAudit, FindsNone, PrintsChecked, PrintsDifferences, PrintsFindings, PrintsSeal, ending_of_audit}
 
 -- If a call only looks at the tables, they have the same rows after the call.
 module _ {S : Type 0} (g : Ghosts S) where
@@ -199,3 +201,22 @@ module _ {S : Type 0} (g : Ghosts S) where
   paths_audited opens (path ∷ paths) other so_far passed old next new had printed holds (Ok fine) some one rest =
       (next, printed, passed, one, subst (λ ps. AuditsPaths g opens ps passed next new printed holds fine) (take_all (length (path ∷ paths) - 1) paths (omega arith)) rest)
   paths_audited opens (path ∷ paths) other so_far passed old next new had printed holds (Err failure) some one rest = tt
+
+-- Suppose that the first path of a list does not occur again. Then the list has a repeated path if
+-- and only if the rest of the list has one.
+pub apart_more : (paths : List (Bor (List ℕ))) (other : Bor (List ℕ)) (b : Bool) (r : Option (Bor (List ℕ))) → 1 ≤ length paths
+    → b ≡ list_any (λ (o : Bor (List ℕ)). bytes_eq o.now (get_or paths 0 other).now) (take (length paths - 1) (drop 1 paths)) → b ≡ false
+    → MatchOption r (are_apart (take (length paths - 1) (drop 1 paths)) ≡ true) (λ path. are_apart (take (length paths - 1) (drop 1 paths)) ≡ false)
+    → MatchOption r (are_apart paths ≡ true) (λ path. are_apart paths ≡ false)
+apart_more [] other b r some is none later = absurd (omega (arith, some))
+apart_more (path ∷ paths) other b r some is none later =
+    let rest : take (length (path ∷ paths) - 1) paths ≡ paths = take_all (length (path ∷ paths) - 1) paths (omega arith) in
+    let none_left : list_any (λ (o : Bor (List ℕ)). bytes_eq o.now path.now) (take (length (path ∷ paths) - 1) paths) ≡ false = sym is ∙ none in
+    let first : list_any (λ (o : Bor (List ℕ)). bytes_eq o.now path.now) paths ≡ false =
+    subst (λ (ps : List (Bor (List ℕ))). list_any (λ (o : Bor (List ℕ)). bytes_eq o.now path.now) ps ≡ false) rest none_left in
+    let same : are_apart (path ∷ paths) ≡ are_apart paths = ap (λ (it : Bool). not it && are_apart paths) first in
+    by r (subst (λ (ps : List (Bor (List ℕ))). MatchOption r (are_apart ps ≡ true) (λ p. are_apart ps ≡ false)) rest later) same
+  where
+    by : (r : Option (Bor (List ℕ))) {a c : Bool} → MatchOption r (a ≡ true) (λ p. a ≡ false) → c ≡ a → MatchOption r (c ≡ true) (λ p. c ≡ false)
+    by None it same = same ∙ it
+    by (Some p) it same = same ∙ it

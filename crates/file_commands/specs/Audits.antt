@@ -19,6 +19,10 @@ use Rattle.table_seals.specs.declared.checks.Checked.{Checked}
 use Rattle.table_seals.specs.declared.seals.Seal.{Seal}
 use Rattle.command_words.specs.declared.line.Sealing.{Sealing}
 use Rattle.command_words.specs.declared.line.Sealing.TheVariants as sealing
+use Rattle.store_tables.specs.declared.open_faults.OpenFault.{OpenFault}
+use Rattle.store_tables.specs.declared.open_faults.OpenFault.TheVariants as opening
+use Rattle.stored_files.specs.declared.audits.AuditFault.{AuditFault}
+use Rattle.stored_files.specs.declared.audits.AuditFault.TheVariants as fault
 use Rattle.stored_files.specs.declared.ends.ending.Ending.{Ending}
 use Rattle.stored_files.specs.declared.ends.ending.Ending.TheVariants.{Fine, Refused, Failed}
 use Rattle.stored_files.specs.declared.ends.failure.Failure.{Failure}
@@ -78,6 +82,13 @@ pub record AuditsTables (content : Content) (seal : Sealing) (had holds : Option
     (fine : Bool) : Type 0 where
   pub marked : ReportsMark content true
   pub audits : Audits content seal had holds fine
+
+-- The fault that the audit of several files reports if it can't read the time zone of a file.
+abbrev pub zone_fault : OpenFault → AuditFault
+zone_fault opening.NotOurs = fault.NotOurs
+zone_fault opening.Zone = fault.NoText
+zone_fault opening.Store = fault.Store
+zone_fault opening.Memory = fault.Memory
 
 -- The ending of the command `audit`: success if no difference was found, a refusal if there are
 -- differences, or the failure.

@@ -1,6 +1,7 @@
 -- Defines what the command `audit` prints about several successive database files, and when it
 -- reports success.
-use Rattle.std.specs.Prelude.{◌≡◌, ◌↔◌, ◌⊎◌, ℕ, Bool, true, false, ◌&&◌, List, [], ◌∷◌, ◌++◌, Option, Some, None, IsTrue, Vec}
+use Rattle.std.specs.Prelude.{◌≡◌, ◌↔◌, ◌⊎◌, ℕ, Bool, true, false, not, bytes_eq, ◌&&◌, List, [], ◌∷◌, ◌++◌, Option, Some, None, IsTrue, Vec}
+use Rattle.std.specs.List.{list_any}
 use Rattle.std.specs.Borrow.{Bor}
 use Rattle.std.specs.Option.{option_map}
 use Rattle.std.specs.declared.alloc.Global.{Global}
@@ -17,7 +18,7 @@ use Rattle.table_seals.specs.Joins.{after_next, joins_after, known_as, known_of}
 use Rattle.table_seals.specs.JoinTexts.{joined_text, lines_of, texts_of}
 use Rattle.command_words.specs.declared.line.Sealing.TheVariants.{Nothing}
 use Rattle.stored_files.specs.declared.ends.ending.Ending.{Ending}
-use Rattle.stored_files.specs.declared.ends.ending.Ending.TheVariants.{Fine, Refused}
+use Rattle.stored_files.specs.declared.ends.ending.Ending.TheVariants.{Fine, Refused, Twice}
 use Rattle.file_commands.specs.Audits.{AuditsTables}
 
 -- States that the meters of a file with the tables `content` were compared with those of the
@@ -41,6 +42,12 @@ pub record AuditsNext (file : List ℕ) (content : Content) (so_far : Bool) (old
   pub audits : AuditsTables content Nothing had holds audited
   pub both : fine ≡ audited && so_far
   pub joins : IsTrue fine → JoinsNext file content old new
+
+-- True if no two paths in a list are equal.
+abbrev pub are_apart : List (Bor (List ℕ)) → Bool
+are_apart [] = true
+are_apart (path ∷ paths) =
+    not (list_any (λ other. bytes_eq other.now path.now) paths) && are_apart paths
 
 -- States that a line was printed.
 pub record PrintsLine (had holds : Option (List ℕ)) : Type 0 where
@@ -101,9 +108,11 @@ module _ {S : Type 0} (g : Ghosts S) (opens : List ℕ → Held S → Type 0) wh
       FindsJoined paths had holds false ⊎ FindsDifferent paths had holds
 
   -- States how the command `audit` over several files ends: with success (`Fine`) or with a refusal
-  -- as `AuditsSeveral` says. Any other ending reports a failure or wrong arguments.
+  -- as `AuditsSeveral` says. It ends with `Twice` only if a file was given twice. Any other ending
+  -- reports a failure.
   abbrev pub EndsSeveral : (paths : List (Bor (List ℕ))) → (had holds : Option (List ℕ)) → Ending
       → Type 0
   EndsSeveral paths had holds Fine = AuditsSeveral paths had holds true
   EndsSeveral paths had holds Refused = AuditsSeveral paths had holds false
+  EndsSeveral paths had holds (Twice file) = are_apart paths ≡ false
   EndsSeveral paths had holds _ = Unit {0}

@@ -1,17 +1,20 @@
 //! Audits database files of `sunreg`, and prints or checks a seal of a file. A seal is a signed-off
 //! digest of the file's past.
-ghost use Rattle.std.specs.Prelude.{◌≡◌, ◌↔◌, [], false, IsTrue, IfOk, OnOk};
+ghost use Rattle.std.specs.Prelude.{◌≡◌, ◌↔◌, [], true, false, bytes_eq, IsTrue, IfOk, OnOk};
 ghost use Rattle.std.specs.Io.KnownBytes.{Appends};
 ghost use Rattle.sqlite.specs.Held.{state};
 ghost use Rattle.sqlite.specs.State.{HasCleanDisk};
 ghost use Rattle.store_tables.specs.Content.{Content};
 ghost use Rattle.table_audit.specs.Looking.{HoldsRows, HoldsTables, OnlyLooks};
 ghost use Rattle.table_seals.specs.JoinTexts.{joined_text};
-ghost use Rattle.file_commands.specs.Audits.{Audits, AuditsFile, AuditsTables};
+ghost use Rattle.file_commands.specs.Audits.{Audits, AuditsFile, AuditsTables, zone_fault};
 ghost use Rattle.command_words.specs.declared.line.Sealing.TheVariants.{Against};
 ghost use Rattle.file_commands.specs.Audits.{EndsAudit, PrintsChecked, PrintsSeal, ending_of_audit};
 ghost use Rattle.file_commands.specs.JoinedAudits.{AuditsNext, AuditsPath, AuditsPaths};
 ghost use Rattle.file_commands.specs.JoinedAudits.{AuditsSeveral, EndsSeveral, JoinsNext, PrintsLine};
+ghost use Rattle.file_commands.specs.JoinedAudits.{are_apart};
+ghost use Rattle.std.specs.List.{list_any};
+ghost use Rattle.std.specs.Option.{MatchOption};
 
 use crate::files::{OfficeFiles, Opening};
 use crate::opening::open_in;
@@ -250,7 +253,9 @@ pub fn audit<'a, D: OfficeFiles, W: Write>(
 // Functions that audit several successive database files.
 
 // Converts a failure to read a file's time zone into the fault that the audit reports.
-fn zone_fault(fault: OpenFault) -> AuditFault {
+fn zone_fault(fault: OpenFault) -> AuditFault
+    ensures { result ≡ zone_fault fault }
+{
     match fault {
         OpenFault::NotOurs => AuditFault::NotOurs,
         OpenFault::Zone => AuditFault::NoText,
@@ -399,14 +404,28 @@ fn audit_files<'a, D: Databases, W: Write>(
     }
 }
 
-// Returns the first path that occurs twice in a list, or `None`.
-fn twice<'a>(paths: &[&'a str]) -> Option<&'a str> {
-    for (index, path) in paths.iter().enumerate() {
-        if paths[..index].iter().any(|other| *other == *path) {
-            return Some(*path);
+// Returns whether a path is in a list.
+fn is_in(path: &str, paths: &[&str]) -> bool
+    ensures { result ≡ list_any (λ other. bytes_eq other.now path.now) paths.now }
+{
+    paths.iter().any(|other| *other == path)
+}
+
+// Returns the first path that occurs again later in a list, or `None`.
+fn twice<'a>(paths: &[&'a str]) -> Option<&'a str>
+    ensures { MatchOption result (are_apart paths.now ≡ true)
+        (λ path. are_apart paths.now ≡ false) }
+{
+    match paths {
+        [] => None,
+        [path, rest @ ..] => {
+            if is_in(*path, rest) {
+                Some(*path)
+            } else {
+                twice(rest)
+            }
         }
     }
-    None
 }
 
 /// Audits successive database files, the oldest first, and checks whether each file continues the

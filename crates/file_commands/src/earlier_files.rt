@@ -1,4 +1,7 @@
 //! Reads earlier database files, whose energy the command `run` also reports.
+ghost use Rattle.std.specs.Prelude.{◌≡◌, ◌-◌, IfOk, Some, length, take};
+ghost use Rattle.file_commands.specs.EarlierFiles.{AreRegistersOf, SumsFiles};
+
 use crate::carries::write_refusal;
 use crate::files::{OfficeFiles, Opening};
 use crate::joined_reports::{NotJoined, join_in, join_paths, last_of};
@@ -27,14 +30,27 @@ fn end_unjoined<'a, E: Write>(errors: &mut E, why: NotJoined<'a>) -> Ending<'a> 
 
 // Returns the accounting registers of the earlier database files, each with its energy summed over
 // these files.
-fn registers_of<'a>(
-    held: JoinedOffice<ComparedRegisters>,
-) -> Result<Vec<EarlierRegister>, Ending<'a>> {
-    let JoinedOffice { kept, .. } = held;
-    let ComparedRegisters { kept } = kept;
+fn registers_of<'a>(joined: JoinedOffice<KeptRegisters>) -> Result<Vec<EarlierRegister>, Ending<'a>>
+    ensures { IfOk result (λ registers. AreRegistersOf (Some joined) registers.items) }
+{
+    let JoinedOffice { kept, .. } = joined;
     match kept.into_registers() {
         Ok(registers) => Ok(registers),
         Err(_) => Err(Ending::Failed(Failure::Memory)),
+    }
+}
+
+// Returns a copy of the data of the earlier files, with which the current file can be compared.
+fn compared_of<'a>(
+    rt: &HostRuntime,
+    joined: &JoinedOffice<KeptRegisters>,
+) -> Result<JoinedOffice<ComparedRegisters>, Ending<'a>> {
+    match (
+        String::from_str(rt.alloc(), joined.zone.as_str()),
+        joined.kept.compared(),
+    ) {
+        (Ok(zone), Ok(kept)) => Ok(JoinedOffice { zone, kept }),
+        _ => Err(Ending::Failed(Failure::Memory)),
     }
 }
 
@@ -42,25 +58,35 @@ fn registers_of<'a>(
 fn hold<'a, D: Databases, E: Write>(
     rt: &HostRuntime,
     databases: &D,
-    joined: JoinedOffice<KeptRegisters>,
+    joined: &JoinedOffice<KeptRegisters>,
     before: &str,
     path: &'a str,
     any: &Name,
     is_new: bool,
     errors: &mut E,
-) -> Result<Vec<EarlierRegister>, Ending<'a>> {
-    let JoinedOffice { zone, kept } = joined;
-    let kept = ComparedRegisters { kept };
-    let held = Some(JoinedOffice { zone, kept });
+) -> Result<(), Ending<'a>> {
+    let held = compared_of(rt, joined)?;
     let all = DayRange::all();
-    match join_in(rt, databases, held, before, path, any, &all, is_new, errors) {
-        Ok(held) => registers_of(held),
+    match join_in(
+        rt,
+        databases,
+        Some(held),
+        before,
+        path,
+        any,
+        &all,
+        is_new,
+        errors,
+    ) {
+        Ok(_) => Ok(()),
         Err(why) => Err(end_unjoined(errors, why)),
     }
 }
 
 /// Returns all paths in a list except the last one.
-pub fn but_last<'a, 'f>(paths: &'f [&'a str]) -> &'f [&'a str] {
+pub fn but_last<'a, 'f>(paths: &'f [&'a str]) -> &'f [&'a str]
+    ensures { result.now ≡ take (length paths.now - 1) paths.now }
+{
     let count = paths.len().saturating_sub(1);
     &paths[..count]
 }
@@ -89,7 +115,10 @@ pub fn earlier_registers<'a, D: OfficeFiles, E: Write>(
     current: &'a str,
     is_new: bool,
     errors: &mut E,
-) -> Result<Vec<EarlierRegister>, Ending<'a>> {
+) -> Result<Vec<EarlierRegister>, Ending<'a>>
+    ensures { IfOk result (λ registers. SumsFiles D.Store.Store (D.opens files.now)
+        paths.now registers.items) }
+{
     let Some(any) = Name::new(ANY) else {
         return Err(Ending::Failed(Failure::Memory));
     };
@@ -100,11 +129,12 @@ pub fn earlier_registers<'a, D: OfficeFiles, E: Write>(
         Ok(None) => Ok(Vec::new(rt.alloc())),
         Ok(Some(joined)) => {
             let before = last_of(paths);
-            let registers = hold(rt, &readable, joined, before, current, &any, is_new, errors);
-            if registers.is_ok() {
-                say_earlier(errors, current, paths);
-            }
-            registers
+            hold(
+                rt, &readable, &joined, before, current, &any, is_new, errors,
+            )?;
+            let registers = registers_of(joined)?;
+            say_earlier(errors, current, paths);
+            Ok(registers)
         }
     }
 }

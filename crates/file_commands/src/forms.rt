@@ -1,8 +1,8 @@
 //! Converts command line options to the options of a report or a statement (a list of meters for
 //! checking a bill).
-ghost use Rattle.std.specs.Prelude.{◌≡◌, MatchResult};
+ghost use Rattle.std.specs.Prelude.{◌≡◌, ◌↔◌, IsTrue, MatchResult};
 ghost use Rattle.energy_report.specs.Days.{IsRange};
-ghost use Rattle.file_commands.specs.Forms.{IsNoRange, form_of, statement_of};
+ghost use Rattle.file_commands.specs.Forms.{HasNoOption, IsNoRange, IsWanted, form_of, statement_of};
 
 use command_words::FormWords;
 use energy_report::{
@@ -50,5 +50,45 @@ pub fn statement_of(words: &FormWords<'_>, range: DayRange) -> StatementForm
         range,
         unit: words.unit.unwrap_or(EnergyUnit::MilliwattHours),
         format: words.format.unwrap_or(Format::Text),
+    }
+}
+
+/// What the command `report` prints about one database file.
+#[derive(Clone, Copy)]
+pub enum Wanted {
+    /// The default report: all days, in mWh, as text. No option requests another form.
+    Plain,
+    Report(ReportForm),
+    Statement(StatementForm),
+}
+
+// Returns whether no option sets the range, the period, the unit or the output format of a report.
+fn has_no_option(words: &FormWords<'_>) -> bool
+    ensures { IsTrue result ↔ HasNoOption words.now }
+{
+    words.from.is_none()
+        && words.till.is_none()
+        && words.period.is_none()
+        && words.unit.is_none()
+        && words.format.is_none()
+}
+
+/// Returns what the command line options request of the command `report` over one database file.
+pub fn wanted_of<'a>(words: &FormWords<'a>) -> Result<Wanted, Ending<'a>>
+    ensures { MatchResult result (IsWanted words.now)
+        (IsNoRange words.now.from words.now.till) }
+{
+    if !words.statement && has_no_option(words) {
+        return Ok(Wanted::Plain);
+    }
+    match range_of(words) {
+        Ok(range) => {
+            if words.statement {
+                Ok(Wanted::Statement(statement_of(words, range)))
+            } else {
+                Ok(Wanted::Report(form_of(words, range)))
+            }
+        }
+        Err(ending) => Err(ending),
     }
 }

@@ -1,10 +1,12 @@
 //! Prints reports on an accounting register (a named counter of a device) over several successive
 //! database files.
-ghost use Rattle.std.specs.Prelude.{◌≡◌, ◌⊎◌, IfOk};
-ghost use Rattle.stored_files.specs.declared.ends.ending.Ending.TheVariants.{Failed};
+ghost use Rattle.std.specs.Prelude.{◌≡◌, ◌≢◌, ◌⊎◌, IfOk};
+ghost use Rattle.std.specs.Io.KnownBytes.{Keeps};
+ghost use Rattle.stored_files.specs.declared.ends.ending.Ending.TheVariants.{Failed, Fine};
 ghost use Rattle.stored_files.specs.declared.ends.failure.Failure.TheVariants.{Streams};
-ghost use Rattle.file_commands.specs.JoinedReports.{JoinsPath, ReportsOne, StatesOne};
-ghost use Rattle.file_commands.specs.JoinedReports.{StatesRecorded};
+ghost use Rattle.file_commands.specs.JoinedReports.{JoinsPath, ReportsOne, ReportsRegister, StatesOne};
+ghost use Rattle.file_commands.specs.JoinedReports.{StatesRecorded, StatesRegister};
+ghost use Rattle.file_commands.specs.JoinedReports.{EndsReportFiles, IfFine, JoinsPaths, PrintsForm, last_path};
 
 use crate::carries::say_refused;
 use crate::escaped::Escaped;
@@ -168,7 +170,10 @@ pub(crate) fn join_paths<'a, D: Databases, K: Keeping, E: Write>(
     register: &Name,
     range: &DayRange,
     errors: &mut E,
-) -> Result<Option<JoinedOffice<K>>, NotJoined<'a>> {
+) -> Result<Option<JoinedOffice<K>>, NotJoined<'a>>
+    ensures { IfOk result (JoinsPaths K.Keeping D.Store.Store (D.opens databases.now) range.now
+        register.now paths.now joined) }
+{
     match paths {
         [] => Ok(joined),
         [path, rest @ ..] => match join_in(
@@ -191,7 +196,9 @@ pub(crate) fn join_paths<'a, D: Databases, K: Keeping, E: Write>(
 
 // Reports why a file could not be added to a report over several files, and returns how the command
 // ends.
-fn end_unjoined<'a, W: Write>(rt: &HostRuntime, why: NotJoined<'a>, output: &mut W) -> Ending<'a> {
+fn end_unjoined<'a, W: Write>(rt: &HostRuntime, why: NotJoined<'a>, output: &mut W) -> Ending<'a>
+    ensures { result ≢ Fine }
+{
     match why {
         NotJoined::Failed(failure) => Ending::Failed(failure),
         NotJoined::Refused { path, why } => say_refused(rt, path, why, output),
@@ -208,7 +215,7 @@ fn report_recorded<W: Write>(
     form: &ReportForm,
     output: &mut W,
 ) -> Ending<'static>
-    ensures { ReportsOne W.Write joined form.now output.old output.new result }
+    ensures { ReportsOne joined form.now (W.contents output.old) (W.contents output.new) result }
 {
     match joined {
         Some(joined) => {
@@ -230,7 +237,8 @@ fn print_statement<W: Write>(
     form: &StatementForm,
     output: &mut W,
 ) -> Ending<'static>
-    ensures { StatesOne W.Write joined.now form.now output.old output.new result }
+    ensures { StatesOne joined.now form.now (W.contents output.old)
+        (W.contents output.new) result }
 {
     match state_joined(alloc, joined, form, output) {
         Ok(status) => ending_of(status),
@@ -248,7 +256,8 @@ fn state_recorded<W: Write>(
     form: &StatementForm,
     output: &mut W,
 ) -> Ending<'static>
-    ensures { StatesRecorded W.Write joined form.now output.old output.new result }
+    ensures { StatesRecorded joined form.now (W.contents output.old)
+        (W.contents output.new) result }
 {
     match joined {
         Some(joined) => {
@@ -263,10 +272,18 @@ fn state_recorded<W: Write>(
 }
 
 /// Returns the last path in a list, or an empty path if the list is empty.
-pub fn last_of<'a>(paths: &[&'a str]) -> &'a str {
-    match paths.last() {
-        Some(path) => *path,
-        None => "",
+pub fn last_of<'a>(paths: &[&'a str]) -> &'a str
+    ensures { result.now ≡ last_path paths.now }
+{
+    match paths {
+        [] => "",
+        [path, rest @ ..] => {
+            if rest.is_empty() {
+                *path
+            } else {
+                last_of(rest)
+            }
+        }
     }
 }
 
@@ -278,7 +295,10 @@ fn report_register<'a, D: Databases, W: Write>(
     register: &Name,
     form: &ReportForm,
     output: &mut W,
-) -> Ending<'a> {
+) -> Ending<'a>
+    ensures { IfFine (ReportsRegister D.Store.Store (D.opens databases.now) paths.now register.now
+        form.now (W.contents output.old) (W.contents output.new)) result }
+{
     let mut errors = Escaped::new(rt.stderr());
     match join_paths(
         rt,
@@ -304,7 +324,10 @@ fn state_register<'a, D: Databases, W: Write>(
     register: &Name,
     form: &StatementForm,
     output: &mut W,
-) -> Ending<'a> {
+) -> Ending<'a>
+    ensures { IfFine (StatesRegister D.Store.Store (D.opens databases.now) paths.now register.now
+        form.now (W.contents output.old) (W.contents output.new)) result }
+{
     let mut errors = Escaped::new(rt.stderr());
     match join_paths(
         rt,
@@ -329,7 +352,10 @@ fn report_paths<'a, D: Databases, W: Write>(
     register: &str,
     words: &FormWords<'a>,
     output: &mut W,
-) -> Ending<'a> {
+) -> Ending<'a>
+    ensures { IfFine (PrintsForm D.Store.Store (D.opens databases.now) paths.now register.now
+        words.now (W.contents output.old) (W.contents output.new)) result }
+{
     let range = match range_of(words) {
         Ok(range) => range,
         Err(ending) => return ending,
@@ -347,7 +373,8 @@ fn report_paths<'a, D: Databases, W: Write>(
 
 // Flushes the output of a command that ended as `ending` says. If this fails, the command failed.
 fn flushed<'a, W: Write>(ending: Ending<'a>, output: &mut W) -> Ending<'a>
-    ensures { (result ≡ ending.entry) ⊎ (result ≡ Failed Streams) }
+    ensures ending { (result ≡ ending.entry) ⊎ (result ≡ Failed Streams) }
+    ensures output { Keeps (W.contents output.old) (W.contents output.new) }
 {
     match output.flush() {
         Ok(()) => ending,
@@ -364,7 +391,10 @@ pub fn report_files<'a, D: OfficeFiles, W: Write>(
     register: &str,
     words: &FormWords<'a>,
     output: &mut W,
-) -> Ending<'a> {
+) -> Ending<'a>
+    ensures { EndsReportFiles D.Store.Store (D.opens files.now) paths.now register.now words.now
+        (W.contents output.old) (W.contents output.new) result }
+{
     let readable = files.opened(Opening::ToRead);
     let ending = report_paths(rt, &readable, paths, register, words, output);
     flushed(ending, output)

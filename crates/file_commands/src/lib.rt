@@ -23,7 +23,7 @@ pub use carries::{NotCarried, carry, carry_open, write_why};
 pub use earlier_files::{but_last, earlier_registers};
 pub use escaped::Escaped;
 pub use files::{Files, OfficeFiles, Opening};
-pub use forms::{form_of, range_of, statement_of};
+pub use forms::{Wanted, wanted_of};
 pub use joined_reports::{last_of, report_files};
 pub use new_office::create;
 pub use opening::open_in;

@@ -4,12 +4,14 @@ use Rattle.std.specs.Borrow.{Bor}
 use Rattle.sqlite.specs.Store.{Ghosts}
 use Rattle.sqlite.specs.Held.{Held}
 use Rattle.command_words.specs.declared.line.CommandLine.{CommandLine}
-use Rattle.command_words.specs.declared.line.CommandLine.TheVariants.{Audit, Carry}
+use Rattle.command_words.specs.declared.line.CommandLine.TheVariants.{Audit, Carry, ReportFiles}
+use Rattle.command_words.specs.declared.line.FormWords.{FormWords}
 use Rattle.command_words.specs.declared.line.Sealing.{Sealing}
 use Rattle.stored_files.specs.Ends.Endings.{ending_number}
 use Rattle.stored_files.specs.declared.ends.ending.Ending.{Ending}
 use Rattle.file_commands.specs.Audits.{EndsAudit}
 use Rattle.file_commands.specs.JoinedAudits.{EndsSeveral}
+use Rattle.file_commands.specs.JoinedReports.{EndsReportFiles}
 use Rattle.file_commands.specs.Rollovers.{EndsCarry}
 
 module _ {S : Type 0} (g : Ghosts S) (opens : List ℕ → Held S → Type 0) where
@@ -33,9 +35,21 @@ module _ {S : Type 0} (g : Ghosts S) (opens : List ℕ → Held S → Type 0) wh
     pub carries : EndsCarry g opens path until ending
     pub number : status ≡ ending_number ending
 
-  -- States that the commands `audit` and `carry` end with an exit status that is right for what
-  -- they found or did. Nothing is stated of the other commands.
+  -- States that the command `report` over several files ends with the exit status `status`.
+  pub record ReportsWith (paths : List (Bor (List ℕ))) (register : List ℕ) (form : FormWords)
+      (status : ℕ) : Type 0 where
+    pub had : Option (List ℕ)
+    pub holds : Option (List ℕ)
+    pub ending : Ending
+    pub reports : EndsReportFiles g opens paths register form had holds ending
+    pub number : status ≡ ending_number ending
+
+  -- States that the commands `audit` and `carry`, and `report` over several files, end with an exit
+  -- status that is right for what they found, did or printed. Nothing is stated of the other
+  -- commands.
   abbrev pub EndsCommand : CommandLine → (status : ℕ) → Type 0
   EndsCommand (Audit dbs seal) status = AuditsWith dbs.items seal status
   EndsCommand (Carry from to until) status = CarriesWith from.now until status
+  EndsCommand (ReportFiles files register form) status =
+      ReportsWith files.items register.now form status
   EndsCommand _ status = Unit {0}

@@ -10,10 +10,9 @@ use file_commands::{Escaped, OfficeFiles, but_last, earlier_registers, last_of, 
 use mb_wire::sockets::{Clock, SystemClock};
 use office_program::NamedFiles;
 use office_running::{Settings, Site, say_ahead};
-use sqlite::types::ValueRef;
-use sqlite::{Alter, Connection};
+use sqlite::Connection;
 use std::io::{self, ErrorKind, Printer, Write};
-use stored_files::{Databases, Ending, Failure, latest_stored, log_of};
+use stored_files::{Databases, Ending, Failure, latest_stored, log_of, request_bytes};
 use stored_office::{
     Done, Task, carry_out_stored, ending_of_done, may_be_ahead, say_remarks, say_unaccepted,
 };
@@ -123,18 +122,6 @@ fn output_of<'r>(
     }
 }
 
-// Returns the number of bytes of accepted requests in a database, or 0 if the query fails. Such a
-// failure is reported later, when the store is opened.
-fn kept_in<S: Alter + Drop>(connection: &mut Connection<S>) -> u64 {
-    let Ok(row) = connection.query_row("SELECT sum(length(request)) FROM replies", &[]) else {
-        return 0;
-    };
-    match row.get_ref(0) {
-        Ok(ValueRef::Int(bytes)) => u64::try_from(bytes).unwrap_or(0),
-        _ => 0,
-    }
-}
-
 // Polls devices on a schedule, serves HTTP, and records the energy in a database.
 fn run_over<'a, D: Databases + NamedFiles>(
     rt: &HostRuntime,
@@ -164,7 +151,7 @@ pub(crate) fn run_opened<'a, D: Databases + NamedFiles, C: Clock>(
     let log = log_of(rt, path)?;
     let paths = [path, log.as_str()];
     let settings = Settings {
-        kept: kept_in(&mut connection),
+        kept: request_bytes(&mut connection),
         files: &paths,
         ..*settings
     };

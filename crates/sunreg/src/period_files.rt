@@ -2,11 +2,10 @@
 //! files are found by their names in one folder.
 use energy_report::Period;
 use file_commands::part_name;
-use run_schedule::{ActivePeriod, file_of_period, period_of_file};
+use run_schedule::{ActivePeriod, active_period, file_of_period, period_of_file, periods_before};
 use std::fs::{self, File};
 use std::io::{self, ErrorKind};
 use std::os::unix::fs::MetadataExt;
-use std::str::from_utf8;
 use stored_files::{Failure, FileFault, is_blank, length_of, log_of};
 
 /// The maximum number of empty files that one call of `led_file` removes. A killed process can
@@ -40,22 +39,28 @@ fn split_path(path: &str) -> (&str, &str) {
     }
 }
 
-// Returns the latest period that has a file in the folder of `file`, the file that the arguments
-// name. Ignores names that are not UTF-8.
-fn period_beside(rt: &HostRuntime, file: &str, period: Period) -> io::Result<ActivePeriod> {
-    let (folder, name) = split_path(file);
-    let mut led = ActivePeriod::none();
+// Returns the names of the files in a folder. Ignores names that are not UTF-8.
+fn names_in(rt: &HostRuntime, folder: &str) -> io::Result<Vec<Vec<u8>>> {
+    let mut names = Vec::new(rt.alloc());
     for entry in fs::read_dir(rt, folder)? {
         match entry {
             Ok(entry) => {
-                let other = entry.file_name();
-                led.see(rt.alloc(), name.as_bytes(), period, other.as_bytes())?;
+                let name = entry.file_name();
+                names.push(Vec::from_slice(rt.alloc(), name.as_bytes())?)?;
             }
             Err(error) if error.kind() == ErrorKind::InvalidFilename => {}
             Err(error) => return Err(error),
         }
     }
-    Ok(led)
+    Ok(names)
+}
+
+// Returns the period of the current file in the folder of `file`, which is the file that the
+// arguments name.
+fn period_beside(rt: &HostRuntime, file: &str, period: Period) -> io::Result<ActivePeriod> {
+    let (folder, name) = split_path(file);
+    let names = names_in(rt, folder)?;
+    Ok(active_period(rt.alloc(), name.as_bytes(), period, names.as_slice())?)
 }
 
 /// Returns the path of the file for the period `text`, in the folder of the file that the arguments
@@ -131,30 +136,22 @@ pub(crate) fn led_file<'a>(
 
 // Returns all periods before `current` that have a file in the folder, such as `2026-10`, the
 // oldest first.
-fn periods_before(
+fn periods_beside(
     rt: &HostRuntime,
     file: &str,
     period: Period,
-    current: &str,
-) -> io::Result<Vec<String>> {
+    current: &[u8],
+) -> io::Result<Vec<Vec<u8>>> {
     let (folder, name) = split_path(file);
-    let mut texts = Vec::new(rt.alloc());
-    for entry in fs::read_dir(rt, folder)? {
-        match entry {
-            Ok(entry) => {
-                let other = entry.file_name();
-                let found = period_of_file(name.as_bytes(), period, other.as_bytes());
-                let text = from_utf8(found.unwrap_or(b"")).unwrap_or("");
-                if !text.is_empty() && text < current {
-                    texts.push(String::from_str(rt.alloc(), text)?)?;
-                }
-            }
-            Err(error) if error.kind() == ErrorKind::InvalidFilename => {}
-            Err(error) => return Err(error),
-        }
-    }
-    texts.sort()?;
-    Ok(texts)
+    let names = names_in(rt, folder)?;
+    let periods = periods_before(
+        rt.alloc(),
+        name.as_bytes(),
+        period,
+        current,
+        names.as_slice(),
+    )?;
+    Ok(periods)
 }
 
 // Returns the paths of the files for the periods `texts`, in order. If the file that the arguments
@@ -162,7 +159,7 @@ fn periods_before(
 fn paths_before<'a>(
     rt: &HostRuntime,
     file: &str,
-    texts: &[String],
+    texts: &[Vec<u8>],
 ) -> Result<Vec<String>, Failure<'a>> {
     let mut paths = Vec::new(rt.alloc());
     if length_of(rt, file).is_some() {
@@ -174,7 +171,7 @@ fn paths_before<'a>(
         }
     }
     for text in texts {
-        let path = path_of(rt, file, text.as_bytes())?;
+        let path = path_of(rt, file, text.as_slice())?;
         if paths.push(path).is_err() {
             return Err(Failure::Memory);
         }
@@ -193,13 +190,11 @@ pub(crate) fn files_before<'a>(
 ) -> Result<Vec<String>, Failure<'a>> {
     let (_, own) = split_path(file);
     let (_, name) = split_path(path);
-    let found = period_of_file(own.as_bytes(), period, name.as_bytes());
-    let current = from_utf8(found.unwrap_or(b"")).unwrap_or("");
-    if current.is_empty() {
+    let Some(current) = period_of_file(own.as_bytes(), period, name.as_bytes()) else {
         return Ok(Vec::new(rt.alloc()));
-    }
-    match periods_before(rt, file, period, current) {
-        Ok(texts) => paths_before(rt, file, &texts),
+    };
+    match periods_beside(rt, file, period, current) {
+        Ok(texts) => paths_before(rt, file, texts.as_slice()),
         Err(error) if error.kind() == ErrorKind::OutOfMemory => Err(Failure::Memory),
         Err(_) => {
             let fault = FileFault::Unreadable;

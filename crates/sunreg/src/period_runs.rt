@@ -5,29 +5,26 @@
 use crate::ended;
 use crate::offices::{OWN_HOST, run_opened};
 use crate::onward_clock::OnwardClock;
-use crate::period_files::{Led, files_before, leave_one_name, led_file, path_of};
+use crate::period_files::{files_before, leave_one_name, led_file, path_of};
 use crate::run_words::{STANDARD_ERROR, sites_of};
 use carried_books::EarlierRegister;
 use command_words::Device;
-use energy_report::{Period, period_name};
+use energy_report::Period;
 use file_commands::{
     Escaped, NotCarried, OfficeFiles, but_last, carry_open, earlier_registers, is_there, last_of,
     open_in, write_why,
 };
-use interval_core::{Day, LAST_MOMENT, Zone, day_of};
 use mb_wire::sockets::{Clock, SystemClock};
 use office_program::NamedFiles;
 use office_running::{Settings, Site, write_without_waiting};
-use office_store::OpenFault;
-use run_schedule::{Plan, next_try, period_until, plan_of};
-use sqlite::types::ValueRef;
-use sqlite::{Alter, Connection};
+use run_schedule::{Course, Rollover, next_try};
+use sqlite::Connection;
 use std::alloc::AllocError;
 use std::io::{self, Write};
 use std::process::ExitCode;
 use std::thread::sleep;
 use std::time::{Duration, Instant};
-use stored_files::{CopyFault, Databases, Ending, Failure, FileFault, Named, read_zone_text};
+use stored_files::{CopyFault, Databases, Ending, Failure, FileFault, Named, course_stored};
 use stored_office::ending_of_done;
 
 /// The maximum number of attempts to open a file that another process has open.
@@ -90,7 +87,7 @@ fn say_later(rt: &HostRuntime, path: &str) {
 
 fn report_late_clock(rt: &HostRuntime, path: &str) {
     if let Ok(line) = format!(in rt.alloc();
-        "sunreg: {}: the system clock is before its last entry: it is not carried yet, and stays in use until the next hour\n",
+        "sunreg: {}: the system clock is before its latest record: it is not carried yet, and stays in use until the next hour\n",
         Named(path)
     ) {
         say(rt, line.as_bytes());
@@ -127,9 +124,10 @@ pub(crate) struct PeriodWords<'r> {
 
 // The options of the command `run --carry` that are the same for all its periods. They include the
 // last file in the arguments, the period, and the earlier files whose energy is also reported.
-#[derive(Clone, Copy)]
-struct Asked<'r> {
+#[derive(Drop)]
+struct Asked<'r, D> {
     rt: &'r HostRuntime,
+    files: &'r D,
     file: &'r str,
     period: Period,
     given: &'r [&'r str],
@@ -138,7 +136,15 @@ struct Asked<'r> {
     settings: Settings<'r>,
 }
 
-impl Asked<'_> {
+impl<D> Asked<'_, D> {
+    // Returns the period and the polling interval of the command.
+    fn rollover(&self) -> Rollover {
+        Rollover {
+            period: self.period,
+            every: self.settings.every,
+        }
+    }
+
     // Returns whether the command `run` also reports the energy of earlier files.
     fn has_earlier(&self) -> bool {
         self.earlier.is_some() || !self.given.is_empty()
@@ -155,86 +161,6 @@ impl Asked<'_> {
     }
 }
 
-// The database file that the command uses next, and the time at which it must change to another
-// file, in seconds since 1970-01-01 UTC.
-#[derive(Drop)]
-enum Course {
-    // The command continues with the current file.
-    Stay(Option<u64>),
-    // The command changes to a new file at this path.
-    Carry(String, Option<u64>),
-}
-
-fn zone_in<S: Alter>(connection: &mut Connection<S>) -> Result<Zone, OpenFault> {
-    match read_zone_text(connection) {
-        Ok(text) => match Zone::read(text.as_str()) {
-            Ok(zone) => Ok(zone),
-            Err(_) => Err(OpenFault::Zone),
-        },
-        Err(fault) => Err(fault),
-    }
-}
-
-// Returns the timestamp of the latest meter entry in a database. Returns 0 if there is no meter
-// entry, or if the query fails. Such a failure is reported later, when the store is opened.
-fn latest_entry<S: Alter + Drop>(connection: &mut Connection<S>) -> u64 {
-    let Ok(row) = connection.query_row("SELECT max(last_moment) FROM installations", &[]) else {
-        return 0;
-    };
-    match row.get_ref(0) {
-        Ok(ValueRef::Int(moment)) => u64::try_from(moment).unwrap_or(0),
-        _ => 0,
-    }
-}
-
-// Returns the database file that the command uses on a given day in a time zone.
-fn course_on<'a, S: Alter + Drop>(
-    asked: &Asked<'a>,
-    led: &Led,
-    connection: &mut Connection<S>,
-    zone: &Zone,
-    day: Day,
-    now: u64,
-) -> Result<Course, Failure<'a>> {
-    let current = period_name(asked.period, day);
-    let every = asked.settings.every;
-    let until = period_until(zone, asked.period, day, every, now);
-    let last_entry = latest_entry(connection);
-    match plan_of(led.period(), current.bytes(), last_entry, now) {
-        Plan::Stay => Ok(Course::Stay(until)),
-        Plan::StayAhead => {
-            say_later(asked.rt, led.path.as_str());
-            Ok(Course::Stay(until))
-        }
-        Plan::Wait => {
-            report_late_clock(asked.rt, led.path.as_str());
-            Ok(Course::Stay(next_try(every, now)))
-        }
-        Plan::Carry => {
-            let to = path_of(asked.rt, asked.file, current.bytes())?;
-            Ok(Course::Carry(to, until))
-        }
-    }
-}
-
-// Returns the database file that the command uses at a given time. After the greatest valid
-// timestamp there are no days, so the command continues with the current file.
-fn course_at<'a, S: Alter + Drop>(
-    asked: &Asked<'a>,
-    led: &Led,
-    connection: &mut Connection<S>,
-    zone: &Zone,
-    now: u64,
-) -> Result<Course, Failure<'a>> {
-    if LAST_MOMENT < now {
-        return Ok(Course::Stay(None));
-    }
-    match day_of(zone, now) {
-        Ok(day) => course_on(asked, led, connection, zone, day, now),
-        Err(_) => Ok(Course::Stay(None)),
-    }
-}
-
 // Appends the last `count` paths of `files` to a list of paths.
 fn add_last<'p>(
     paths: &mut Vec<&'p str>,
@@ -246,6 +172,15 @@ fn add_last<'p>(
         paths.push(files[place].as_str())?;
     }
     Ok(())
+}
+
+// A run over one database file: whether it is the first run of the command, the time at which it
+// ends, and the remaining seconds of the command's requested duration.
+#[derive(Clone, Copy)]
+struct OneRun {
+    is_first: bool,
+    until: Option<u64>,
+    left: Option<u64>,
 }
 
 // Returns the paths in `given`, followed by the last `count` paths of `files`.
@@ -304,8 +239,7 @@ fn untold(
 // Returns the energy of all registers in the files older than the file at `path`, if the options
 // request it.
 fn requested_registers<D: OfficeFiles>(
-    asked: &Asked<'_>,
-    files: &D,
+    asked: &Asked<'_, D>,
     path: &str,
     is_first: bool,
     is_new: bool,
@@ -318,7 +252,7 @@ fn requested_registers<D: OfficeFiles>(
     match files_before(rt, asked.file, asked.period, path) {
         Ok(before) => match registers_before(
             rt,
-            files,
+            asked.files,
             asked.given,
             before.as_slice(),
             count,
@@ -335,23 +269,29 @@ fn requested_registers<D: OfficeFiles>(
 // Polls devices and serves HTTP over a connection to the file at `path`, until a given time.
 // Returns `None` if this time was reached, or if the requested duration of the command has passed.
 fn run_in<D: Databases + NamedFiles, C: Clock + Drop>(
-    asked: &Asked<'_>,
-    files: &D,
+    asked: &Asked<'_, D>,
     path: &str,
     connection: Connection<D::Store>,
     registers: &[EarlierRegister],
     clock: &mut OnwardClock<C>,
-    until: Option<u64>,
-    left: Option<u64>,
+    run: OneRun,
 ) -> Option<ExitCode> {
     let rt = asked.rt;
     let settings = Settings {
-        lasts: left,
-        ends: until,
+        lasts: run.left,
+        ends: run.until,
         earlier: registers,
         ..asked.settings
     };
-    let done = run_opened(rt, files, path, connection, asked.sites, &settings, clock);
+    let done = run_opened(
+        rt,
+        asked.files,
+        path,
+        connection,
+        asked.sites,
+        &settings,
+        clock,
+    );
     match ending_of_done(done, OWN_HOST, settings.listen.port()) {
         Ending::Fine => None,
         ending => Some(ended(rt, &ending)),
@@ -404,30 +344,18 @@ fn open_again<'a, D: Databases>(
 // Reads the energy of earlier files, opens the file at `path`, and polls devices and serves HTTP
 // over this file. The file is new, or this process had it open before.
 fn run_at<D: OfficeFiles + NamedFiles, C: Clock + Drop>(
-    asked: &Asked<'_>,
-    files: &D,
+    asked: &Asked<'_, D>,
     path: &str,
-    is_first: bool,
     is_new: bool,
     clock: &mut OnwardClock<C>,
-    until: Option<u64>,
-    left: Option<u64>,
+    run: OneRun,
 ) -> Option<ExitCode> {
-    let registers = match requested_registers(asked, files, path, is_first, is_new) {
+    let registers = match requested_registers(asked, path, run.is_first, is_new) {
         Ok(registers) => registers,
         Err(code) => return Some(code),
     };
-    match open_again(asked.rt, files, path, is_new) {
-        Ok(connection) => run_in(
-            asked,
-            files,
-            path,
-            connection,
-            registers.as_slice(),
-            clock,
-            until,
-            left,
-        ),
+    match open_again(asked.rt, asked.files, path, is_new) {
+        Ok(connection) => run_in(asked, path, connection, registers.as_slice(), clock, run),
         Err(failure) => Some(ended(asked.rt, &Ending::Failed(failure))),
     }
 }
@@ -460,31 +388,28 @@ fn is_made(rt: &HostRuntime, to: &str, why: &NotCarried<'_>) -> bool {
 // Continues all meters of a file in a new file, and then uses the new file. On failure, continues
 // with the old file until the next full hour, and then tries again.
 fn carry_on<D: OfficeFiles + NamedFiles, C: Clock + Drop>(
-    asked: &Asked<'_>,
-    files: &D,
+    asked: &Asked<'_, D>,
     from: &str,
     connection: Connection<D::Store>,
     to: &str,
-    is_first: bool,
     clock: &mut OnwardClock<C>,
-    until: Option<u64>,
-    left: Option<u64>,
+    run: OneRun,
 ) -> Option<ExitCode> {
     let rt = asked.rt;
-    match carry_open(rt, files, from, connection, to) {
+    match carry_open(rt, asked.files, from, connection, to) {
         Ok(count) => say_carried(rt, from, to, count),
         Err(why) => {
             if !is_made(rt, to, &why) {
                 say_not_carried(rt, from, &why, NOT_CARRIED);
                 let until = next_try(asked.settings.every, clock.now());
-                return run_at(asked, files, from, is_first, false, clock, until, left);
+                return run_at(asked, from, false, clock, OneRun { until, ..run });
             }
             // The new file has its final name, but the folder could not be synced, or another
             // process created the file.
             say_not_carried(rt, from, &why, NAMED);
         }
     }
-    run_at(asked, files, to, is_first, true, clock, until, left)
+    run_at(asked, to, true, clock, run)
 }
 
 // Opens the current file of the command `run`. If another process has the file open, waits, except
@@ -502,11 +427,59 @@ fn open_led<'a, D: Databases>(
     }
 }
 
+// Polls devices and serves HTTP over the current file, which is open.
+fn stay<D: OfficeFiles + NamedFiles, C: Clock + Drop>(
+    asked: &Asked<'_, D>,
+    path: &str,
+    connection: Connection<D::Store>,
+    clock: &mut OnwardClock<C>,
+    run: OneRun,
+) -> Option<ExitCode> {
+    if asked.has_earlier() {
+        // Closes the current file, which is opened again after the earlier files were read.
+        drop(connection);
+        return run_at(asked, path, false, clock, run);
+    }
+    run_in(asked, path, connection, &[], clock, run)
+}
+
+// Polls devices and serves HTTP over the current file or over a new file, as `course` says. `begun`
+// says whether this is the command's first run, and has the command's remaining duration.
+fn follow<D: OfficeFiles + NamedFiles, C: Clock + Drop>(
+    asked: &Asked<'_, D>,
+    path: &str,
+    connection: Connection<D::Store>,
+    course: Course,
+    clock: &mut OnwardClock<C>,
+    begun: OneRun,
+) -> Option<ExitCode> {
+    let rt = asked.rt;
+    match course {
+        Course::Stay { until } => {
+            stay(asked, path, connection, clock, OneRun { until, ..begun })
+        }
+        Course::StayAhead { until } => {
+            say_later(rt, path);
+            stay(asked, path, connection, clock, OneRun { until, ..begun })
+        }
+        Course::Wait { until } => {
+            report_late_clock(rt, path);
+            stay(asked, path, connection, clock, OneRun { until, ..begun })
+        }
+        Course::Carry { period, until } => match path_of(rt, asked.file, period.bytes()) {
+            Ok(to) => {
+                let run = OneRun { until, ..begun };
+                carry_on(asked, path, connection, to.as_str(), clock, run)
+            }
+            Err(failure) => Some(ended(rt, &Ending::Failed(failure))),
+        },
+    }
+}
+
 // Polls devices and serves HTTP over the current file, or over a new file if a new period has
 // begun.
 fn turn<D: OfficeFiles + NamedFiles, C: Clock + Drop>(
-    asked: &Asked<'_>,
-    files: &D,
+    asked: &Asked<'_, D>,
     clock: &mut OnwardClock<C>,
     is_first: bool,
     left: Option<u64>,
@@ -518,43 +491,21 @@ fn turn<D: OfficeFiles + NamedFiles, C: Clock + Drop>(
     };
     let path = led.path.as_str();
     leave_one_name(rt, path);
-    let mut connection = match open_led(rt, files, path, is_first) {
+    let connection = match open_led(rt, asked.files, path, is_first) {
         Ok(connection) => connection,
         Err(failure) => return Some(ended(rt, &Ending::Failed(failure))),
     };
-    let zone = match zone_in(&mut connection) {
-        Ok(zone) => zone,
-        Err(fault) => {
-            return Some(ended(rt, &Ending::Failed(Failure::Unopened { path, fault })));
-        }
-    };
-    let course = match course_at(asked, &led, &mut connection, &zone, clock.now()) {
-        Ok(course) => course,
-        Err(failure) => return Some(ended(rt, &Ending::Failed(failure))),
-    };
-    match course {
-        Course::Stay(until) => {
-            if asked.has_earlier() {
-                // Earlier files are read before the current file is opened, each over its own
-                // connection.
-                drop(connection);
-                return run_at(asked, files, path, is_first, false, clock, until, left);
-            }
-            run_in(asked, files, path, connection, &[], clock, until, left)
-        }
-        Course::Carry(to, until) => {
-            carry_on(
-                asked,
-                files,
-                path,
-                connection,
-                to.as_str(),
+    let now = clock.now();
+    match course_stored(rt.alloc(), connection, asked.rollover(), led.period(), now) {
+        Ok((course, connection)) => {
+            let begun = OneRun {
                 is_first,
-                clock,
-                until,
+                until: None,
                 left,
-            )
+            };
+            follow(asked, path, connection, course, clock, begun)
         }
+        Err(fault) => Some(ended(rt, &Ending::Failed(Failure::Unopened { path, fault }))),
     }
 }
 
@@ -586,6 +537,7 @@ pub(crate) fn run_by_periods<'a, D: OfficeFiles + NamedFiles>(
     };
     let asked = Asked {
         rt,
+        files,
         file: last_of(words.files),
         period: words.period,
         given: but_last(words.files),
@@ -603,7 +555,7 @@ pub(crate) fn run_by_periods<'a, D: OfficeFiles + NamedFiles>(
         if left == Some(0) {
             break;
         }
-        match turn(&asked, files, &mut clock, run == 0, left) {
+        match turn(&asked, &mut clock, run == 0, left) {
             Some(code) => return code,
             None => clock.advance_least(),
         }

@@ -1,4 +1,4 @@
-use Rattle.std.proofs.Common.{Bool, true, false, inr, subst}
+use Rattle.std.proofs.Common.{Bool, true, inr, subst}
 use Rattle.file_commands.specs.JoinedAudits.{AuditsPaths}
 use Rattle.file_commands.proofs.Audited.{several_joined}
 use Rattle.file_commands.proofs.audits.audit_files.Goals as goal

@@ -3,7 +3,6 @@ use Rattle.std.proofs.lemmas.Bool.{false≢true}
 use Rattle.command_words.specs.declared.line.Sealing.{Sealing}
 use Rattle.file_commands.specs.Audits.{Audits}
 use Rattle.table_audit.proofs.Looking.{looks_then}
-use Rattle.command_words.specs.declared.line.Sealing.TheVariants.{Nothing}
 use Rattle.file_commands.proofs.Audited.{checked_audited, differences_printed, findings_printed, rows_on, seal_audited}
 use Rattle.file_commands.proofs.audits.audit_marked.Goals as goal
 
