@@ -12,8 +12,9 @@ use std::process::Abort;
 static FAILED: &[u8] =
     b"HTTP/1.1 503 Service Unavailable\r\nContent-Type: application/json\r\nContent-Length: 14\r\nConnection: close\r\n\r\n{\"refused\":13}";
 
-// Opens an `Office` (the core of `sunreg`) over a database. If a database call fails, tries again
-// with the returned database.
+// Opens an `Office` (the core of `sunreg`) over a database. If the opening fails for any reason,
+// `Office::open` returns the database. This function then opens an `Office` over the same database
+// a second time. It panics if the second opening fails too.
 fn opened<B: Books>(rt: &impl Abort, alloc: Global, books: B) -> Office<B> {
     let books = match Office::open(alloc, books, 1900) {
         Ok(office) => return office,

@@ -1,4 +1,7 @@
--- Proves how many consecutive starts of polls would succeed.
+-- Lemmas about consecutive starts of polls, with no other event between the starts. The main lemma
+-- `ready_by` derives `IsReady` from `HasRoom`, for each `count` of at most 16. `IsReady` states
+-- that the next `count` starts at valid times succeed. It also states that the session refuses the
+-- start after them.
 use Rattle.std.proofs.Common.{◌≡◌, ◌≢◌, ℕ, suc, ◌+◌, ◌-◌, ◌%◌, ◌<◌, ◌≤◌, Bool, ltb, true, false, not, ◌&&◌, ◌||◌, List, [], ◌∷◌, ◌++◌, length, refl, sym, ap, ◌∙◌, arith, inl, inr, Option, Some, None, leb, append_assoc, length-append, cond}
 use Rattle.std.specs.List.{list_any}
 use Rattle.std.specs.Prelude.{IsSome}

@@ -34,8 +34,9 @@ TakesOut test old (Some poll) new =
     × (filter (λ p. not (test p)) new ≡ filter (λ p. not (test p)) old)
     × (length old ≡ suc (length new))
 
--- The outcome of a removed poll, by the kind of event that completed it. The byte list is the frame
--- in the session's reader.
+-- The outcome of a completed poll, by the kind of event that completed it. The session removes a
+-- completed poll from its list of pending polls. The argument `frame` is the frame in the session's
+-- reader, or `None` if the reader has no frame.
 abbrev pub outcome_by : Poll → SettledBy → Option (List ℕ) → Settlement
 outcome_by poll by.Silence frame = Silent
 outcome_by poll by.Frame frame = answer poll (unwrap_or frame [])
@@ -54,8 +55,8 @@ abbrev pub CanTell : Option SettledPoll → Option (List ℕ) → Type 0
 CanTell None frame = Unit {0}
 CanTell (Some taken) frame = HasFrame taken.by frame
 
--- The poll number and the outcome of a removed poll. The byte list is the frame in the session's
--- reader.
+-- The poll number and the outcome of a completed poll, which the session removed from its list of
+-- pending polls. The argument `frame` is the frame in the session's reader, or `None`.
 abbrev pub reported_by : SettledPoll → Option (List ℕ) → ℕ × Settlement
 reported_by taken frame = (taken.poll.number, outcome_by taken.poll taken.by frame)
 

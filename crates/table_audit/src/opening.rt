@@ -20,7 +20,8 @@ fn is_opening(row: &TableRow) -> bool
         && !row.is_voided
 }
 
-/// Returns whether a meter's counter range, ceiling (maximum power) and opening have valid values.
+/// Returns whether a meter's counter range, ceiling (maximum power) and opening entry (time and
+/// reading) have valid values. The time of the opening entry may have any value.
 fn may_be_checked(meter: &Installed) -> bool
     ensures { IsTrue result ↔ MayBeChecked meter.now }
 {

@@ -28,7 +28,8 @@ read_form (read.Exchange number register last rolls meter ceiling range) =
 abbrev pub IsReadLine : (words : List (List ℕ)) → ReadLine → Type 0
 IsReadLine words line = Spell words (read_form line)
 
--- True if the words form no line with `@read`, the placeholder for a counter's present reading.
+-- True if the words are not a valid line with `@read`, the placeholder for a counter's present
+-- reading. The words may be a valid line without `@read`, or no valid line at all.
 abbrev pub IsNoReadLine : (words : List (List ℕ)) → Type 0
 IsNoReadLine words = (line : ReadLine) → IsReadLine words line → ⊥
 
@@ -95,7 +96,8 @@ pub record IsRead (text : List ℕ) (line : ReadLine) : Type 0 where
   pub is : IsReadLine (words_of (unmarked text)) line
   pub may : may_end (is_marked text) line ≡ true
 
--- True if the text is no line with `@read`, the placeholder for a counter's present reading.
+-- True if the text is not a valid line with `@read`, the placeholder for a counter's present
+-- reading. The text may be a valid line without `@read`, or no valid line at all.
 abbrev pub IsNoRead : (text : List ℕ) → Type 0
 IsNoRead text = (line : ReadLine) → IsRead text line → ⊥
 

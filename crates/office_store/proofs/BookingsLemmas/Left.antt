@@ -173,8 +173,8 @@ pub record IsLeft (facts : List Fact) (o : Opening) (place : ℕ) (made : Correc
   pub last : made.last ≡ stands_at (cond (is_none made.next) (last_before (opened o) around) (installation_of facts o).last) total
   pub from : made.from ≡ gone_from o.at made.last.moment
 
--- True if the energy that voiding (cancelling) an entry adds may be added to `intervals`: no row
--- then has more energy than the greatest total of a meter.
+-- True if the energy that voiding (cancelling) an entry adds may be added to `intervals`. No row of
+-- `intervals` may then have more energy than `greatest_total`, the fixed limit on a meter's total.
 abbrev pub may_put : (meter : List ℕ) → Option Rejoined → List Interval → Type 0
 may_put meter None is = Unit {0}
 may_put meter (Some joined) is = AreSmall (with_shares meter (shares_of joined.put) is)

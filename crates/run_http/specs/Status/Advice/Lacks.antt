@@ -34,8 +34,9 @@ lacks_if false device lack = []
 abbrev pub is_read : List PlannedRead → Register → Bool
 is_read reads register = list_any (λ read. is_read_by read.span register) reads
 
--- True if a Modbus read of the device's point list covers the accounting register's counter and
--- scale. Also true without a point list, because the program then reports the missing list.
+-- True if one of the Modbus reads that the device's point list defines covers the counter and the
+-- scale factor of the accounting register. Also true without a point list, because the program then
+-- reports the missing list.
 abbrev pub is_in_list : Option Planned → Register → Bool
 is_in_list None register = true
 is_in_list (Some list) register = is_read list.reads register
