@@ -7,6 +7,8 @@ use Rattle.std.specs.declared.option.Option.{Option}
 use Rattle.std.specs.declared.result.Result.{Result}
 use Rattle.mb_wire.specs.Frames.{IsBad, IsOpen, frames, rest}
 use Rattle.mb_wire.specs.Spans.{Span}
+use Rattle.mb_wire.specs.declared.link.LastTake.{LastTake}
+use Rattle.mb_wire.specs.declared.link.Took.TheVariants as took
 use Rattle.sun_points.specs.Writing.{GotText}
 use Rattle.sun_chain.specs.Scanning.Stages.{holding}
 use Rattle.sun_chain.specs.Scanning.Answers.{Ask, request_frame, settled, words_seen}
@@ -48,6 +50,11 @@ abbrev pub TurnReports : Ask → List (List ℕ) → Turn → Type 0
 TurnReports ask frames Idle = settled ask frames ≡ None
 TurnReports ask frames More = settled ask frames ≡ None
 TurnReports ask frames (Settled answer) = settled ask frames ≡ Some (words_seen answer)
+
+-- True if the last read of the link to the device timed out.
+abbrev pub IsIdle : Option LastTake → Type 0
+IsIdle None = ⊥
+IsIdle (Some last) = last.answer ≡ Ok took.Idle
 
 -- The effect of a turn, which is one read of the link to the device. The result of the turn follows
 -- from the frames that the new bytes complete.

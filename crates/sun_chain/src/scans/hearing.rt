@@ -1,5 +1,5 @@
 //! Waits for a device's response to a read request.
-ghost use Rattle.std.specs.Prelude.{◌≡◌, ◌≤◌, ◌+◌, ◌++◌, length, true, false, Err, IfOk, IfSome};
+ghost use Rattle.std.specs.Prelude.{◌≡◌, ◌≤◌, ◌<◌, ◌+◌, ◌-◌, ◌^◌, ◌++◌, length, true, false, Err, Ok, IfOk, IsOk, IfSome};
 ghost use Rattle.std.specs.Option.{option_map};
 ghost use Rattle.mb_wire.specs.Bytes.{words_of};
 ghost use Rattle.mb_wire.specs.Frames.{IsBad, IsOpen, IsOwn, frames, rest};
@@ -9,7 +9,7 @@ ghost use Rattle.mb_wire.specs.Replies.{read_as};
 ghost use Rattle.std.specs.Io.KnownBytes.{Keeps};
 ghost use Rattle.sun_chain.specs.Scanning.Answers.{ask_of, brought, first_of, frames_held, seen, settled};
 ghost use Rattle.sun_chain.specs.Scanning.Answers.{words_in, words_seen};
-ghost use Rattle.sun_chain.specs.Scanning.Lines.{Garbles, HearsAnswer, HearsTurn, has_failed, is_gone};
+ghost use Rattle.sun_chain.specs.Scanning.Lines.{Garbles, HearsAnswer, HearsTurn, IsIdle, has_failed, is_gone};
 
 use crate::scans::fault::ScanFault;
 use crate::scans::tries::Try;
@@ -142,7 +142,8 @@ fn hear_turn<L: Link>(
     ensures given { Keeps (L.given link.old) (L.given link.new) }
     ensures failures { L.failed link.new ≡ risen (has_failed result) (L.failed link.old) }
     ensures ends { L.ended link.new ≡ risen (is_gone result) (L.ended link.old) }
-    ensures takes { L.taken link.new ≤ L.taken link.old + 1 }
+    ensures takes { L.taken link.new ≡ risen true (L.taken link.old) }
+    ensures idle { result ≡ Ok Turn.Idle → IsIdle (L.last link.new) }
 {
     let mut piece = [0; MAX_ADU];
     match link.take(&mut piece) {
@@ -175,6 +176,8 @@ pub(crate) fn hear<L: Link>(
     ensures failures { L.failed link.new ≡ risen (has_failed result) (L.failed link.old) }
     ensures ends { L.ended link.new ≡ risen (is_gone result) (L.ended link.old) }
     ensures takes { L.taken link.new ≤ L.taken link.old + MOST_TAKES }
+    ensures listens { IsOk result → L.taken link.old < 2 ^ 64 - 1
+        → L.taken link.old < L.taken link.new }
 {
     for _turn in 0..MOST_TAKES {
         match hear_turn(alloc, link, reader, attempt) {

@@ -2,6 +2,7 @@ use Rattle.std.proofs.Common.{◌≡◌, Err, refl, ap, arith, ◌∙◌}
 use Rattle.sun_chain.specs.declared.scans.fault.ScanFault.TheVariants.{Garbled}
 use Rattle.std.proofs.KnownBytes.{Keeps-refl, Keeps-trans}
 use Rattle.sun_chain.specs.Scanning.Answers.{ask_of}
+use Rattle.sun_chain.proofs.ScanLemmas.Risen.{grows_begun, grows_more, risen_most}
 use Rattle.sun_chain.proofs.ScanLemmas.Settles.{garbles_both, waits_answer, waits_begun, waits_end, waits_idle, waits_more}
 use Rattle.sun_chain.proofs.scans.hearing.hear.Goals as goal
 
@@ -12,6 +13,7 @@ loop-turn-init g c = record {
   failures = refl;
   ends = refl;
   takes = omega arith;
+  grows = grows_begun (g.L.Link.taken c.args.link.now);
 }
 
 pub hear_turn-requires : goal.hear_turn-requires
@@ -26,7 +28,8 @@ loop-turn-preserved g c =
       given = Keeps-trans _ _ _ before.given c.in-Ok-More.ensures.given;
       failures = c.in-Ok-More.ensures.failures ∙ before.failures;
       ends = c.in-Ok-More.ensures.ends ∙ before.ends;
-      takes = omega (arith, before.takes, c.in-Ok-More.ensures.takes);
+      takes = omega (arith, before.takes, risen_most _ _ c.in-Ok-More.ensures.takes);
+      grows = grows_more _ _ _ c.loop-turn._turn before.grows c.in-Ok-More.ensures.takes;
     }
 
 pub returns-in-Ok-Settled-clause-heard : goal.returns-in-Ok-Settled-clause-heard

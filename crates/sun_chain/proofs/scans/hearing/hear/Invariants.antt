@@ -1,6 +1,7 @@
 use Rattle.std.proofs.Common.{◌≡◌, ◌+◌, ◌≤◌}
 use Rattle.std.specs.Io.KnownBytes.{Keeps}
 use Rattle.sun_chain.specs.Scanning.Answers.{ask_of}
+use Rattle.sun_chain.proofs.ScanLemmas.Risen.{Grows}
 use Rattle.sun_chain.proofs.ScanLemmas.Settles.{Waits}
 use Rattle.sun_chain.proofs.scans.hearing.hear.Given as goal
 
@@ -11,4 +12,5 @@ invariant-loop-turn g l = record {
   failures : g.L.Link.failed l.link ≡ g.L.Link.failed l.fn.link;
   ends : g.L.Link.ended l.link ≡ g.L.Link.ended l.fn.link;
   takes : g.L.Link.taken l.link ≤ g.L.Link.taken l.fn.link + l._turn;
+  grows : Grows (g.L.Link.taken l.fn.link) (g.L.Link.taken l.link) l._turn;
 }
