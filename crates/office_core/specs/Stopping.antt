@@ -8,9 +8,9 @@ use Rattle.office_books.specs.Lawfulness.{IsPast}
 use Rattle.office_core.specs.Failing.{is_failure}
 use Rattle.office_core.specs.EventRun.{Answered, LeftByRun, LeftInTurn, history_after}
 
--- True if the event failed (refusal 13, store failed, or 14, out of memory), and no later event
--- added a record. No reason to refuse the event applies. The given records include the records of
--- this event.
+-- True if four conditions hold. The event failed (refusal 13, store failed, or 14, out of memory).
+-- No rule refuses the event. No later event added a record. The records `facts` are those of the
+-- earlier events, and those that this event would have added without the failure.
 pub record IsWithFailed (past : History) (fed : Answered) (later : List Answered)
     (facts : List Fact) : Type 0 where
   pub failed : is_failure fed.result ≡ true

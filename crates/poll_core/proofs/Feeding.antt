@@ -100,8 +100,8 @@ Finds-then a p q mid buffered ps qs o first second =
 some_inj : {X : Type 0} (a b : X) → Some a ≡ Some b → a ≡ b
 some_inj a b e = cc
 
--- A poll is completed by the frame whose bytes the frame reader has buffered. The fields that the
--- reader returns for this frame complete the same poll.
+-- Suppose that the fields that the frame reader returns for a buffered frame complete a poll. Then
+-- the buffered frame itself completes the same poll.
 pub FindsBy-lent : (buffered : Option (List ℕ)) (fields : Fields) (ps qs : List Poll) (o : Option Poll) → Some fields ≡ option_map fields_of buffered → AreApart ps → TakesOut (has_id fields.tid) ps o qs → (f : List ℕ) → buffered ≡ Some f → IsOwn f → FindsBy f ps o qs
 FindsBy-lent buffered fields ps qs o lent apart h f e own =
     let same : fields ≡ fields_of f = some_inj _ _ (lent ∙ ap (option_map fields_of) e) in

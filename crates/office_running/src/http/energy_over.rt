@@ -17,8 +17,8 @@ use office_events::{Name, Refusal};
 use run_http::write_energy_reply;
 use std::alloc::{AllocError, Global};
 
-/// The accounting registers of earlier database files of the store, and the time zone of their
-/// days.
+/// The accounting registers (named counters) in the database files before the current one, and the
+/// time zone by whose days their energy was summed.
 #[derive(Clone, Copy)]
 pub struct EarlierFiles<'a> {
     pub zone: Zone,

@@ -24,7 +24,8 @@ pub struct TurnShare {
 }
 
 impl TurnShare {
-    /// Returns the full limits for HTTP responses, for an iteration of the main loop that begins.
+    /// Returns the limits on the HTTP responses of one iteration of the main loop: their number,
+    /// their bytes and their duration. At its beginning, an iteration has used nothing of them.
     pub fn whole() -> TurnShare
         ensures { result ≡ shares.whole }
     {
