@@ -27,8 +27,8 @@ all_read a b c whole piece n before last none end =
     let consumed : Consumes a c whole = rw joined at both in
     Consumes-all a c whole [] whole consumed end (let e : whole ≡ [] ++ whole = search arith in e)
 
--- The bytes of a slice from index `n` on, in the form that a recursive call of the buffered writer
--- passes on.
+-- The bytes of a slice from index `n` on: `length bytes - n` bytes after the first `n` bytes. The
+-- function `write_rest` passes these bytes to its recursive call.
 abbrev rest_from : ℕ → List ℕ → List ℕ
 rest_from n bytes = take (length bytes - n) (drop n bytes)
 

@@ -43,8 +43,8 @@ accepted range terms last reading none =
       ),
     ))
 
--- If a power of `ceiling` can advance a counter by `d` counts but not by a full turn, `d` is less
--- than a full turn.
+-- Suppose that a meter's power is at most `ceiling` W for `seconds` seconds. If its counter can
+-- then advance by `d` counts, but not by `range` counts (a full turn), `d` is less than `range`.
 less_than_a_turn : (ceiling unit seconds range d : ℕ) → can_count ceiling unit seconds d ≡ true → can_count ceiling unit seconds range ≡ false → d < range
 less_than_a_turn ceiling unit seconds range d slow long =
     elim (cases_lt d range) [

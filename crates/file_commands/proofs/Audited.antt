@@ -72,7 +72,8 @@ differences_printed seal content findings had holds (Ok fine) reported some verd
     to_any seal content had holds fine (record { findings = findings; reported = reported; printed = printed; verdict = verdict }, different fine verdict some)
 differences_printed seal content findings had holds (Err fault) reported some verdict printed = tt
 
--- The result of the comparison with a seal was printed.
+-- If an audit compared a database file with a seal (digests of the records of a file at one time),
+-- it printed the result of the comparison, unless it failed.
 pub checked_printed : (content : Content) (text : List ℕ) (checked : Checked) (had holds : Option (List ℕ)) (r : Result Bool AuditFault)
     → ((seal : SealedTables) × (text ≡ seal_text seal) × ReportsChecked seal content checked)
     → IfOk r (λ fine. IsTrue fine ↔ IsAsSealed checked) → OnOk r (Appends had holds (checked_text checked))

@@ -111,8 +111,9 @@ pub(crate) enum NotJoined<'a> {
     Apart,
 }
 
-// Converts the fault that occurred when a file could not be added to a report over several files.
-// If the file does not continue the earlier files, also reports the reason.
+// Returns the reason `NotJoined` for the fault that occurred when the file at `path` could not be
+// added to a report over several files. If the file does not continue the earlier files, also
+// writes the reason to `errors`.
 fn not_joined<'a, E: Write>(
     errors: &mut E,
     before: &str,

@@ -49,7 +49,8 @@ with_scale_of points run (Named name) = with_scale run (scale_point points name)
 abbrev pub run_named : BTreeMap (Bor (List ℕ)) Run → List ℕ → Option Run
 run_named runs name = get_by (λ key. slice_cmp nat_cmp name key.now) runs
 
--- True if the map has, for each name, the register range of the list's scale point with that name.
+-- True if the map has, under the name of each scale point of the list, the register range of the
+-- first scale point with this name. The map has no entry for any other name.
 abbrev pub AreScaleRuns : List ListedPoint → BTreeMap (Bor (List ℕ)) Run → Type 0
 AreScaleRuns points runs = (name : List ℕ)
     → run_named runs name ≡ option_map point_run (scale_point points name)

@@ -104,7 +104,8 @@ rows_past known e (p ∷ polls) h beyond =
     ∙ ap (λ (row : PollRow). map (poll_row known) (reverse polls) ++ row ∷ []) one
     ∙ sym (ap (map (poll_row known)) (reverse_cons p polls) ∙ map-append (poll_row known) (reverse polls) (p ∷ []))
 
--- The rows of all polls after the poll at an index gets an outcome.
+-- The table of polls `rows` after the poll at index `i` got the outcome `e`. All other polls are
+-- unchanged.
 abbrev ended_in_place : EndedPoll → PollRow → List PollRow → ℕ → List PollRow
 ended_in_place e d rows i = slice_set rows i (row_with_end e (get_or rows i d))
 

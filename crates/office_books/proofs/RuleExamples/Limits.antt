@@ -114,7 +114,8 @@ installs_after count =
 installations : (installs_after 4095 ≡ false) × (installs_after 4096 ≡ true)
 installations = (refl, refl)
 
--- Examples of the limits of timestamps, poll numbers and numbers of idempotency keys.
+-- Examples of the greatest timestamp, the greatest poll number, and the greatest number in an
+-- idempotency key (the name of a caller and a number).
 
 -- The greatest timestamp is the first second of 2100.
 last_moment : moment_limit ≡ 4102444800

@@ -101,8 +101,9 @@ module _ (meter : List ℕ) where
   at_start : (start : ℕ) (share : Share) → is_at meter start (interval_of meter share) ≡ has_start start share
   at_start start share = ap (λ b. b && (share.start == start)) (itself meter)
 
-  -- If an edit of a meter's rows of `intervals` corresponds to an edit of its quarter hours in the
-  -- records, the edited rows encode the edited quarter hours.
+  -- Suppose that a meter's rows of `intervals` encode the quarter hours `shares`. Suppose also that
+  -- `f` changes no row's meter, and changes the row of each quarter hour `share` to the row of
+  -- `h share`. After `f` is applied to each row, the meter's rows encode `map h shares`.
   edited : (f : Interval → Interval) (h : Share → Share) (rows : List Interval) (shares : List Share)
       → ((i : Interval) → (f i).meter ≡ i.meter) → ((share : Share) → f (interval_of meter share) ≡ interval_of meter (h share))
       → AreRowsOf meter rows shares → AreRowsOf meter (map f rows) (map h shares)

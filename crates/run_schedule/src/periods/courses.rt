@@ -20,7 +20,7 @@ pub struct Rollover {
 /// seconds since 1970-01-01 UTC, or `None` if it never does.
 #[derive(Drop)]
 pub enum Course {
-    /// The command keeps using the file.
+    /// The command `run --carry` keeps using its current database file.
     Stay { until: Option<u64> },
     /// The command keeps using the file, whose period is later than the clock's period.
     StayAhead { until: Option<u64> },
