@@ -24,7 +24,7 @@ abbrev pub is_later : (text other : List ℕ) → Bool
 is_later text other = nat_lt (number_in (as_far_as text other)) (number_in (as_far_as other text))
 
 -- The decision for a file whose period is over: `Carry` (continue all meters in a new file), unless
--- the clock is before the file's last entry.
+-- the clock is before the file's latest record, whose timestamp is `last_entry`.
 abbrev pub plan_of_past : (last_entry now : ℕ) → Plan
 plan_of_past last_entry now = if nat_lt now last_entry then Wait else Carry
 
@@ -37,7 +37,7 @@ plan_of (Some led) current last_entry now =
     else (if is_later led.now current then StayAhead else plan_of_past last_entry now)
 
 -- Theorem: if the program continues all meters in a new file, then the old file's period is not
--- later than the current period. No entry in the old file is then later than the clock.
+-- later than the current period. No record in the old file is then later than the clock.
 abbrev pub NothingGoesBack : Type 0
 NothingGoesBack = (led : Bor (List ℕ)) (current : List ℕ) (last_entry now : ℕ)
     → plan_of (Some led) current last_entry now ≡ Carry

@@ -24,8 +24,8 @@ pub enum Course {
     Stay { until: Option<u64> },
     /// The command keeps using the file, whose period is later than the clock's period.
     StayAhead { until: Option<u64> },
-    /// The command keeps using the file for now: the file's period is over, but its last entry is
-    /// later than the clock.
+    /// The command keeps using the file for now: the file's period is over, but its latest record
+    /// is later than the clock.
     Wait { until: Option<u64> },
     /// The command continues all meters in the new file of `period`, such as `2026-11`.
     Carry { period: Line, until: Option<u64> },
@@ -57,8 +57,8 @@ fn course_on(
 }
 
 /// Decides what `run --carry` does with its current file at the time `now`. `led` is the period in
-/// the file's name, or `None` if the name has no period. `last_entry` is the time of the file's
-/// last entry. After `LAST_MOMENT`, the program stays in its file.
+/// the file's name, or `None` if the name has no period. `last_entry` is the timestamp of the
+/// file's latest record. After `LAST_MOMENT`, the program stays in its file.
 pub fn course_at(zone: &Zone, by: Rollover, led: Option<&[u8]>, last_entry: u64, now: u64) -> Course
     ensures { IsCourse zone.now by led.entry last_entry now result }
 {

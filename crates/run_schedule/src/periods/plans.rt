@@ -19,7 +19,7 @@ pub enum Plan {
     Stay,
     /// Continue in the file: its period is later than the clock's period.
     StayAhead,
-    /// Continue in the file for now: its period is over, but its last entry is later than the
+    /// Continue in the file for now: its period is over, but its latest record is later than the
     /// clock.
     Wait,
     /// Continue all meters in a new file for the current period.
@@ -74,7 +74,7 @@ pub fn plan_of(led: Option<&[u8]>, current: &[u8], last_entry: u64, now: u64) ->
 }
 
 /// Theorem: the program continues all meters in a new file only if two conditions hold. The old
-/// file's period is not later than the current period, and its last entry is not later than the
+/// file's period is not later than the current period, and its latest record is not later than the
 /// clock.
 pub fn nothing_goes_back()
     ensures { NothingGoesBack }
