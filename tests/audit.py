@@ -48,6 +48,22 @@ def same(what, got, wanted):
         print(f"{what}: {got!r}\nand not {wanted!r}", flush=True)
 
 
+def when(at):
+    """Returns a timestamp of the year 2026 as a line of the audit prints it."""
+    return f"{at} ({time.strftime('%Y-%m-%d %H:%M:%S', time.gmtime(at))} UTC)"
+
+
+def energy(mwh):
+    """Returns an energy below 1000 kWh as a line of the audit prints it."""
+    digits = f"{mwh:07}"
+    return f"{mwh} mWh ({digits[:-6]}.{digits[-6:]} kWh)"
+
+
+def differences(number):
+    """Returns the last line of an audit that finds some differences."""
+    return "1 difference" if number == 1 else f"{number} differences"
+
+
 def audit(db, *words):
     """Returns the status of an audit, its lines, and its standard error."""
     begun = time.monotonic()
@@ -170,11 +186,11 @@ def printed(entries, intervals):
     last, end, raw = len(entries), BEGIN + DAY * DAYS, entries[-1][4]
     here, astray, cant = f"WHERE place = {last}", "with a value that none may have", f"entry {last} can't come there:"
     for what, command, lines in (
-        ("a quarter hour has more", f"UPDATE intervals SET mwh = 8 WHERE start = {BEGIN}", [f"interval {BEGIN} has 8, entries give 7"]),
-        ("a quarter hour is gone", f"DELETE FROM intervals WHERE start = {BEGIN + 900}", [f"interval {BEGIN + 900} has no row, entries give 7"]),
-        ("one more", f"INSERT INTO intervals VALUES ('m1', {end}, 5)", [f"interval {end} has 5, entries give none"]),
+        ("a quarter hour has more", f"UPDATE intervals SET mwh = 8 WHERE start = {BEGIN}", [f"interval {when(BEGIN)} has 8 mWh (0.000008 kWh), entries give 7 mWh (0.000007 kWh)"]),
+        ("a quarter hour is gone", f"DELETE FROM intervals WHERE start = {BEGIN + 900}", [f"interval {when(BEGIN + 900)} has no row, entries give 7 mWh (0.000007 kWh)"]),
+        ("one more", f"INSERT INTO intervals VALUES ('m1', {end}, 5)", [f"interval {when(end)} has 5 mWh (0.000005 kWh), entries give none"]),
         ("where it stands", "UPDATE installations SET last_raw = 5, total = total + 1, ended = 1",
-         [f"last has {end} 5 -3, entries give {end} {raw} -3", f"total has {raw + 1}, entries give {raw}", "is ended, entries don't end it"]),
+         [f"last has {when(end)} 5 -3, entries give {when(end)} {raw} -3", f"total has {energy(raw + 1)}, entries give {energy(raw)}", "is ended, entries don't end it"]),
         ("another place of the meter", "UPDATE installations SET place = 2", ["place has 2, the next is 1"]),
         ("another place", f"UPDATE entries SET place = {last + 1} {here}", [f"entry {last + 1} can't come there: the next place is {last}"]),
         ("opened twice", f"UPDATE entries SET kind = 1 {here}", [f"{cant} the meter was opened before"]),
@@ -191,8 +207,16 @@ def printed(entries, intervals):
         ("a value of a meter", "UPDATE installations SET ceiling = 0", [f"has a row in installations {astray}"]),
         ("a value of a quarter hour", f"UPDATE intervals SET mwh = -1 WHERE start = {BEGIN}", [f"has a row in intervals {astray}"]),
     ):
-        wanted = [*(f"meter m1 {it}" for it in lines), f"{len(lines)} differences"]
+        wanted = [*(f"meter m1 {it}" for it in lines), differences(len(lines))]
         same(what, changed(*command.split("; ")), (1, wanted, []))
+    changed("UPDATE installations SET total = total + 1", f"DELETE FROM intervals WHERE start = {BEGIN + 900}")
+    objects = ['{"kind":"interval","meter":"m1","start":%d,"has":null,"expected":"7"}' % (BEGIN + 900),
+               '{"kind":"total","meter":"m1","has":"%d","expected":"%d"}' % (raw + 1, raw), '{"fine":false,"differences":2}']
+    same("differences as JSON", audit("changed.db", "--format", "json"), (1, objects, []))
+    fine = '{"fine":true,"meters":1,"entries":%d,"intervals":%d,"polls":%d}' % (last, len(intervals), last)
+    same("a sound file as JSON", audit("python.db", "--format", "json"), (0, [fine], []))
+    same("a seal as JSON", audit("python.db", "--format", "json", "--seal")[:2], (2, []))
+    same("several files as JSON", audit("python.db", "--db", "changed.db", "--format", "json")[:2], (2, []))
     more = ("WITH RECURSIVE more (it) AS (SELECT 9 UNION ALL SELECT it + 1 FROM more WHERE it < 5000) INSERT INTO polls SELECT it, 'inv', 1, {0}, 7, 4, 0, 125 FROM more; "
             "INSERT INTO outcomes SELECT poll, {0}, 3, 0 FROM polls WHERE poll > 8").format(end)
     for what, command, line in (
@@ -205,7 +229,7 @@ def printed(entries, intervals):
         ("one of the second run", f"{more}; DELETE FROM outcomes WHERE poll = 4500; DELETE FROM polls WHERE poll = 4500", "poll 4500 is missing"),
         ("an outcome of the second run", f"{more}; UPDATE outcomes SET moment = 0 WHERE poll = 4097", "poll 4097 outcome comes before the poll"),
     ):
-        same(what, changed(*command.split("; ")), (1, [line, "1 differences"], []))
+        same(what, changed(*command.split("; ")), (1, [line, "1 difference"], []))
     for what, command, lines in (
         ("many polls are gone", f"{more}; DELETE FROM outcomes WHERE poll BETWEEN 10 AND 4200; DELETE FROM polls WHERE poll BETWEEN 10 AND 4200",
          ["polls 10 to 4096 are missing", "polls 4097 to 4200 are missing"]),
@@ -219,9 +243,9 @@ def printed(entries, intervals):
             # (the audit reports each range without a poll, up to 100 differences)
             runs = [f"polls {it * 4096 + 1} to {it * 4096 + 4096} are missing" for it in range(100)]
             lines = [runs[0].replace("polls 1 ", "polls 9 "), *runs[1:]]
-        same(what, changed(*command.split("; ")), (1, [*lines, f"{len(lines)} differences"], []))
-    same("polls of two runs", changed(*more.split("; ")), (0, [f"fine: 1 meters, {last} entries, {len(intervals)} intervals, 5000 polls"], []))
-    wanted = [f"meter m1 interval {start} has {mwh + 1}, entries give {mwh}" for _, start, mwh in intervals[:100]]
+        same(what, changed(*command.split("; ")), (1, [*lines, differences(len(lines))], []))
+    same("polls of two runs", changed(*more.split("; ")), (0, [f"fine: 1 meter, {last} entries, {len(intervals)} intervals, 5000 polls"], []))
+    wanted = [f"meter m1 interval {when(start)} has {energy(mwh + 1)}, entries give {energy(mwh)}" for _, start, mwh in intervals[:100]]
     wanted += [f"and {len(intervals) - 100} more", f"{len(intervals)} differences"]
     same("more than are told", changed("UPDATE intervals SET mwh = mwh + 1"), (1, wanted, []))
 
@@ -296,6 +320,47 @@ def definitions():
         same(what, changed(command), (3, [], ["failed", f"sunreg: changed.db: {mark}"]))
         same(f"{what}: no seal", audit("changed.db", "--seal"), (3, [], ["failed", f"sunreg: changed.db: {mark}"]))
         same(f"{what}: one of two", audit_all(["changed.db", "python.db"]), (3, ["file changed.db"], ["failed", f"sunreg: changed.db: {mark}"]))
+
+
+def around_meters(entries):
+    """Audits files whose meters are sound by themselves: meters that overlap at a register, rows
+    without a valid name, and polls that start before earlier polls."""
+    _, _, _, end, raw, *_ = entries[-1]
+    second = (
+        "INSERT INTO installations VALUES (2, 'm2', '{0}', 100000, 0, {1}, 5, -3, 0)",
+        "INSERT INTO ranges VALUES ('m2', 4294967296)",
+        "INSERT INTO entries VALUES ('m2', 1, 1, {1}, 5, 0, 0, -3)",
+    )
+    at = lambda register, moment: [it.format(register, moment) for it in second]
+    closed = [f"UPDATE entries SET kind = 4 WHERE place = {len(entries)}", "UPDATE installations SET ended = 1"]
+    renamed = lambda name: [f"UPDATE {table} SET meter = {name}" for table in ("installations", "entries", "ranges", "intervals", "voids")]
+    more = ("WITH RECURSIVE more (it) AS (SELECT 9 UNION ALL SELECT it + 1 FROM more WHERE it < 5000) "
+            f"INSERT INTO polls SELECT it, 'inv', 1, {end}, 7, 4, 0, 125 FROM more")
+    overlap = ["register main: meters m1 and m2 overlap"]
+    for what, commands, wanted in (
+        ("two open meters at a register", at("main", end), overlap),
+        ("a meter opened before the last one was closed", [*closed, *at("main", end - 1)], overlap),
+        ("a meter opened before the earlier one", at("main", 0), overlap),
+        ("a meter opened when the last one was closed", [*closed, *at("main", end)], []),
+        ("two open meters at two registers", at("spare", end), []),
+        ("a device without a name", ["UPDATE devices SET name = '9'", "UPDATE registers SET device = '9'", "UPDATE polls SET device = '9'"], ["row 1 of devices names no device"]),
+        ("a register without a name", ["UPDATE registers SET name = 'a b' WHERE place = 2"], ["row 2 of registers names no register"]),
+        ("a long name", [f"UPDATE registers SET name = '{'a' * 17}' WHERE place = 2"], ["row 2 of registers names no register"]),
+        ("the longest name", [f"UPDATE registers SET name = '{'a' * 16}' WHERE place = 2"], []),
+        ("a meter at a register without a name", ["UPDATE registers SET name = '' WHERE place = 1", "UPDATE installations SET register = ''"],
+         ["meter m1 has a row in installations with a value that none may have", "row 1 of registers names no register"]),
+        ("a name that prints a verdict", renamed("'m1' || char(10) || 'fine'"), ["row 1 of installations names no meter"]),
+        ("a point without a name", ["INSERT INTO points VALUES ('inv', 1, 'a-b', 3, 0, 40000, 'acc32', '')"], ["row 1 of points names no point"]),
+        ("a point with a name", ["INSERT INTO points VALUES ('inv', 1, 'a.b_1', 3, 0, 40000, 'acc32', '')"], []),
+        ("a poll before an earlier one", ["UPDATE polls SET started = (SELECT started - 1 FROM polls WHERE poll = 4) WHERE poll = 5"], ["poll 5 starts before an earlier poll"]),
+        ("a poll as early as the last one", ["UPDATE polls SET started = (SELECT started FROM polls WHERE poll = 4) WHERE poll = 5"], []),
+        ("a poll of the second run", [more, "UPDATE polls SET started = 1 WHERE poll = 4097"], ["poll 4097 starts before an earlier poll"]),
+    ):
+        status, lines, said = changed(*commands)
+        wanted_lines = [*wanted, "1 difference" if len(wanted) == 1 else f"{len(wanted)} differences"] if wanted else lines
+        same(what, (status, lines, said), (int(bool(wanted)), wanted_lines, []))
+        same(f"{what}: as Python audits it", audit_rows.audit_of(sqlite3.connect("changed.db")), (status, lines))
+        same(f"{what}: a seal", audit("changed.db", "--seal")[0], status)
 
 
 def other(value):
@@ -421,7 +486,7 @@ def seals(entries):
         ("a reading fewer, and all that followed from it", fewer),
     ):
         same(f"{what}: fine", changed(*commands)[0], 0)
-        same(f"{what}: not as it was sealed", held_to("changed.db", of_python), (1, ["meter m1 differs from the seal", "1 of 1 meters differ"], []))
+        same(f"{what}: not as it was sealed", held_to("changed.db", of_python), (1, ["meter m1 differs from the seal", "1 of 1 meter differs"], []))
     pending = len(entries)  # (Python's last poll, which has no outcome)
     for what, commands in (
         ("a poll of another unit", ("UPDATE polls SET unit = unit + 1 WHERE poll = 2",)),
@@ -441,7 +506,7 @@ def seals(entries):
         same(f"{what}: fine", changed(*commands)[0], 0)
         same(f"{what} is no difference", held_to("changed.db", of_python), (0, ["sealed: fine"], []))
     same("tables that aren't fine have no seal", (changed("UPDATE installations SET total = total + 1")[1:], audit("changed.db", "--seal")[0]), (audit("changed.db", "--seal")[1:], 1))
-    same("nor are they held to one", held_to("changed.db", of_python)[1][-1], "1 differences")
+    same("nor are they held to one", held_to("changed.db", of_python)[1][-1], "1 difference")
     no_seal = ["error: invalid value 'seal.txt' for '--against <SEAL>': not a seal that sunreg audit --seal printed"]
     for what, text in (("nothing", b""), ("a line fewer", of_python.split(b"\n", 1)[1]), ("the last line fewer", of_python.rsplit(b"sha256", 1)[0]), ("a line behind it", of_python + b"\n"),
                        ("another number", of_python.replace(b" ceiling 1", b" ceiling 2")), ("one of an earlier program", of_python.replace(b"seal 2", b"seal 1", 1)), ("a pending poll fewer", of_python.replace(b"pending ", b"", 1)), ("no text", b"\xff" + of_python), ("ends of another kind", of_python.replace(b"\n", b"\r\n"))):
@@ -518,7 +583,7 @@ def several(seed):
         status, lines, said = audit_all(FILES, *words)
         same(f"no seal of several: {words[0]}", (status, lines, said[:1]), (2, [], [f"error: the argument '{words[0]}' cannot be used with more than one '--db'"]))
     # (a void of the last reading sets the meter back, a void of an earlier reading does not)
-    for what, place, last in (("the last reading is voided after the carry", 3, "1 differences between files"), ("one before it is voided", 2, "joined: fine")):
+    for what, place, last in (("the last reading is voided after the carry", 3, "1 difference between files"), ("one before it is voided", 2, "joined: fine")):
         changed_old = copy_of("first.db", f"void{place}.db")
         enter(changed_old, f"11 void m1 {place}\n")
         whole(changed_old)
@@ -531,7 +596,7 @@ def several(seed):
     holds("carried up to a moment", ["first.db", "until.db"], "2 differences between files")
     for what, command, last in (
         ("another zone", "UPDATE meta SET zone = 'UTC1'", "2 differences between files"),
-        ("a meter of another name", "UPDATE {0} SET meter = 'm9' WHERE meter = 'm1'", "1 differences between files"),
+        ("a meter of another name", "UPDATE {0} SET meter = 'm9' WHERE meter = 'm1'", "1 difference between files"),
         ("a file that isn't fine", "UPDATE installations SET total = total + 1 WHERE meter = 'm1'", None),
     ):
         books = copied("second.db")
@@ -580,12 +645,13 @@ def main():
         same("as one file", audit("program.db"), found)
         entries, intervals = by_python("python.db")
         before = pathlib.Path("python.db").read_bytes()
-        same("a file of Python", audit("python.db"), (0, [f"fine: 1 meters, {len(entries)} entries, {len(intervals)} intervals, {len(entries)} polls"], []))
+        same("a file of Python", audit("python.db"), (0, [f"fine: 1 meter, {len(entries)} entries, {len(intervals)} intervals, {len(entries)} polls"], []))
         same("its bytes stay", (audit("python.db")[0], pathlib.Path("python.db").read_bytes() == before), (0, True))
         whole("python.db")
         printed(entries, intervals)
         no_books()
         definitions()
+        around_meters(entries)
         seals(entries)
         several(seed)
         changes(seed)

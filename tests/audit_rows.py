@@ -3,12 +3,36 @@
 It is written from docs/AUDIT.md, docs/SCHEMA.md and the definitions of energy_core and meter_journal::audit.
 It uses nothing of the program."""
 import collections
+import datetime
+import re
 
 OPENING, READING, _MANUAL, CLOSING, RESET, RESCALE = range(1, 7)
 LATEST, GREATEST_PLACE, SHOWN, MOST_ENERGY = 4_102_444_800, 2**62, 2**32 - 1, 4 * 10**18
 LONGEST = 3000  # the most quarter hours of a step
 RUN = 4096  # the audit reads polls in ranges of so many numbers
+NAME, POINT = re.compile(r"[A-Za-z][A-Za-z0-9_-]{0,15}"), re.compile(r"[A-Za-z][A-Za-z0-9_.]{0,31}")
 CODES = {1: (0, 0), 2: (0, 255), 3: (0, 0), 4: (1, 5), 5: (1, 4)}  # by the kind of an outcome
+
+
+def counted(number, one, many):
+    """Returns a number and a noun, such as `1 meter`."""
+    return f"{number} {one if number == 1 else many}"
+
+
+def energy(mwh):
+    """Returns an energy in mWh and in kWh."""
+    whole, part = divmod(mwh, 1_000_000)
+    return f"{mwh} mWh ({whole}.{part:06} kWh)"
+
+
+def moment(at):
+    """Returns a timestamp with its date and time in UTC."""
+    return f"{at} ({datetime.datetime(1970, 1, 1) + datetime.timedelta(seconds=at)} UTC)"
+
+
+def stand(at, raw, sf):
+    """Returns the time, the value and the scale factor of a counter."""
+    return f"{moment(at)} {raw} {sf}"
 
 
 def unit(sf):
@@ -118,9 +142,9 @@ def within(rows, *limits):
 
 def differences_of(books, next_place, installation):
     """Returns the differences of a meter, in order."""
-    place, name, _, ceiling, ended, *last, total = installation
+    place, name, register, ceiling, ended, *last, total = installation
     astray = "has a row in {} with a value that none may have"
-    if not within([(place, ceiling, ended, *last, total)], (1, GREATEST_PLACE), (1, 10**9), (0, 1), (0, LATEST), (0, SHOWN), (-3, 3), (0, MOST_ENERGY)):
+    if not is_installation(installation) or not NAME.fullmatch(register):
         return [astray.format("installations")]
     ask = lambda what: books.execute(f"SELECT {what}", (name,)).fetchall()
     told = [] if place == next_place else [f"place has {place}, the next is {next_place}"]
@@ -145,15 +169,45 @@ def differences_of(books, next_place, installation):
     has, wanted = dict(intervals), meter.rows
     for start in sorted({*has, *wanted}):
         if has.get(start) != wanted.get(start):
-            tells = f"has {has[start]}" if start in has else "has no row"
-            told.append(f"interval {start} {tells}, entries give {wanted.get(start, 'none')}")
+            tells = f"has {energy(has[start])}" if start in has else "has no row"
+            gives = energy(wanted[start]) if start in wanted else "none"
+            told.append(f"interval {moment(start)} {tells}, entries give {gives}")
     stands = [meter.at, meter.raw, meter.sf]
     if last != stands:
-        told.append(f"last has {' '.join(map(str, last))}, entries give {' '.join(map(str, stands))}")
+        told.append(f"last has {stand(*last)}, entries give {stand(*stands)}")
     if total != meter.total:
-        told.append(f"total has {total}, entries give {meter.total}")
+        told.append(f"total has {energy(total)}, entries give {energy(meter.total)}")
     if ended != meter.is_ended:
         told.append("is not ended, entries end it" if meter.is_ended else "is ended, entries don't end it")
+    return told
+
+
+def is_installation(row):
+    """Returns whether the numbers of a row of installations are in their ranges."""
+    place, _, _, ceiling, ended, *last, total = row
+    return within([(place, ceiling, ended, *last, total)], (1, GREATEST_PLACE), (1, 10**9), (0, 1), (0, LATEST), (0, SHOWN), (-3, 3), (0, MOST_ENERGY))
+
+
+def overlaps_of(books, rows):
+    """Returns the lines about meters that overlap a later meter of their register."""
+    told, spans = [], []
+    for row in rows:
+        _, name, register, _, ended, at, *_ = row
+        first = books.execute("SELECT moment FROM entries WHERE meter = ? ORDER BY place", (name,)).fetchone()
+        if NAME.fullmatch(name) and NAME.fullmatch(register) and first and 0 <= first[0] <= LATEST and is_installation(row):
+            spans.append((name, register, first[0], at if ended else None))
+    for index, (name, register, _, closed) in enumerate(spans):
+        later = [it for it in spans[index + 1 :] if it[1] == register and (closed is None or closed > it[2])]
+        told += [f"register {register}: meters {name} and {later[0][0]} overlap"] if later else []
+    return told
+
+
+def unnamed_of(books):
+    """Returns the lines about devices, points and registers without a valid name."""
+    told = []
+    for table, order, thing, pattern in (("devices", "place", "device", NAME), ("points", "device, place", "point", POINT), ("registers", "place", "register", NAME)):
+        names = books.execute(f"SELECT name FROM {table} ORDER BY {order}").fetchall()
+        told += [f"row {number} of {table} names no {thing}" for number, (name,) in enumerate(names, 1) if not pattern.fullmatch(name)]
     return told
 
 
@@ -192,7 +246,7 @@ def poll_differences(books, before):
     last = books.execute("SELECT max(poll) FROM polls").fetchone()[0] or 0
     if last > GREATEST_PLACE or last < 1 and books.execute("SELECT count(*) FROM polls").fetchone()[0]:
         return [f"poll 0 {astray}"]
-    told = []
+    told, since = [], 0
     for first in range(1, last + 1, RUN):
         inside = (first if first > 1 else -(2**63), first + RUN - 1)
         polls = books.execute("SELECT poll, unit, started, tid, function, address, count FROM polls WHERE poll BETWEEN ? AND ? ORDER BY poll", inside).fetchall()
@@ -200,6 +254,10 @@ def poll_differences(books, before):
         told += [f"poll {number(it)} {astray}" for it in polls if not is_poll(*it)]
         told += [f"poll {number(it)} outcome {astray}" for it in outcomes if not is_outcome(*it)]
         told += order_differences(first, min(last, inside[1]), [it[0] for it in polls if number(it)])
+        for it in polls:
+            if is_poll(*it):
+                told += [f"poll {it[0]} starts before an earlier poll"] if it[2] < since else []
+                since = max(since, it[2])
         started = {it[0]: it[2] if is_poll(*it) else 0 for it in polls}
         told += [f"poll {it[0]} outcome comes before the poll" for it in outcomes if is_outcome(*it) and it[1] < started.get(it[0], it[1] + 1)]
         if not polls and before + len(told) >= 100:
@@ -212,13 +270,17 @@ def audit_of(books):
     if books.execute("PRAGMA foreign_key_check").fetchone():
         return 3, []
     rows = books.execute("SELECT * FROM installations ORDER BY place").fetchall()
-    told = [f"meter {row[1]} {it}" for place, row in enumerate(rows, 1) for it in differences_of(books, place, row)]
+    told = []
+    for place, row in enumerate(rows, 1):
+        told += [f"meter {row[1]} {it}" for it in differences_of(books, place, row)] if NAME.fullmatch(row[1]) else [f"row {place} of installations names no meter"]
+    told += overlaps_of(books, rows) + unnamed_of(books)
     told += poll_differences(books, len(told))
     if told:
-        return 1, [*told[:100], *([f"and {len(told) - 100} more"] if len(told) > 100 else []), f"{len(told)} differences"]
+        return 1, [*told[:100], *([f"and {len(told) - 100} more"] if len(told) > 100 else []), counted(len(told), "difference", "differences")]
     entries, intervals = (sum(books.execute(f"SELECT count(*) FROM {table} WHERE meter = ?", (row[1],)).fetchone()[0] for row in rows) for table in ("entries", "intervals"))
     polls = books.execute("SELECT count(*) FROM polls").fetchone()[0]
-    return 0, [f"fine: {len(rows)} meters, {entries} entries, {intervals} intervals, {polls} polls"]
+    counts = ((len(rows), "meter", "meters"), (entries, "entry", "entries"), (intervals, "interval", "intervals"), (polls, "poll", "polls"))
+    return 0, ["fine: " + ", ".join(counted(*it) for it in counts)]
 
 
 # ---- several files
@@ -241,11 +303,10 @@ def join_of(new, known):
     """Returns the list of the lines about a meter of the next file.
 
     `known` has the meters of the files before it, the latest first."""
-    stand = lambda it: " ".join(map(str, it))
     before = [it for it in known if it.name == new.name]
     if not before:
         beyond = [it for it in known if it.register == new.register and new.opening[0] < it.last[0]]
-        return [f"begins in {new.file} at {stand(new.opening)}, meter {it.name} stands at its register in {it.file} at {stand(it.last)}" for it in beyond[:1]]
+        return [f"begins in {new.file} at {stand(*new.opening)}, meter {it.name} stands at its register in {it.file} at {stand(*it.last)}" for it in beyond[:1]]
     old = before[0]
     if old.ended:
         return [f"is in {new.file}, and was closed in {old.file}"]
@@ -253,7 +314,7 @@ def join_of(new, known):
         if getattr(new, what) != getattr(old, what):
             return [f"{what} is {getattr(new, what)} in {new.file}, and {getattr(old, what)} in {old.file}"]
     if new.opening != old.last:
-        return [f"begins in {new.file} at {stand(new.opening)}, stands in {old.file} at {stand(old.last)}"]
+        return [f"begins in {new.file} at {stand(*new.opening)}, stands in {old.file} at {stand(*old.last)}"]
     return [f"has more energy in all files up to {new.file} than a meter may have"] if sum(it.total for it in [new, *before]) > MOST_ENERGY else []
 
 
@@ -272,7 +333,7 @@ def joins_of(files):
         known, before = meters + known, (file, zone, meters)
     if not told:
         return 0, ["joined: fine"]
-    return 1, [*told[:100], *([f"and {len(told) - 100} more"] if len(told) > 100 else []), f"{len(told)} differences between files"]
+    return 1, [*told[:100], *([f"and {len(told) - 100} more"] if len(told) > 100 else []), counted(len(told), "difference", "differences") + " between files"]
 
 
 def audit_of_all(files):

@@ -279,7 +279,7 @@ run create --db meters.db --zone UTC0
 printf '1 device inv 1 5 1\n2 register main inv 3 40094 @40096\n3 install main m1 5000 0 100000\n' | "$program" enter --db meters.db --caller desk > out
 same 'a meter' "$(paste -s -d ' ' out)" 'ok ok ok'
 nightly 01-30
-same 'a nightly copy' "$status $(cat out err)" "0 sunreg-backup: meters.db is copied to $room/night/2026-01-30T021500Z.db, audit fine: 1 meters, 1 entries, 0 intervals, 0 polls"
+same 'a nightly copy' "$status $(cat out err)" "0 sunreg-backup: meters.db is copied to $room/night/2026-01-30T021500Z.db, audit fine: 1 meter, 1 entry, 0 intervals, 0 polls"
 same 'it is its owner'\''s alone, and no other file is left' "$(stat -c %a night/2026*) $(copies)" '600 2026-01-30'
 same 'its rows' "$(dump night/2026-01-30T021500Z.db)" "$(dump meters.db)"
 mkdir night/new
@@ -292,7 +292,7 @@ fails_at_night 'a torn source' "can't copy torn.db, so no old copy was removed: 
 run backup --db meters.db --to changed.db
 sqlite3 changed.db 'UPDATE installations SET total = total + 1'
 fails_at_night 'a copy with a difference' "the copy of changed.db failed its audit, so no old copy was removed: " DB=changed.db
-same 'the difference is printed' "$(grep -c 'meter m1 total has 1, entries give 0' err)" 1
+same 'the difference is printed' "$(grep -c 'meter m1 total has 1 mWh (0.000001 kWh), entries give 0 mWh (0.000000 kWh)' err)" 1
 # (a limit on the size of files, as a full disk)
 printf '#!/bin/bash\ntrap "" XFSZ\nulimit -f 64\nexec "%s" "$@"\n' "$program" > bin/sunreg
 fails_at_night 'a full disk' "can't copy meters.db, so no old copy was removed: sunreg: $room/night/new/copy.db: can't write it"

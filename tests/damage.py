@@ -100,7 +100,7 @@ def damaged_logs(office):
         ran = office.run("recover", "--db", "office.db", "--to", "new.db")
         check(f"byte {at}: recover changes nothing", office.bytes_of() == before)
         if at < wal_model.HEADER:
-            check(f"byte {at}: recover has all", (ran.returncode, ran.stdout.splitlines()[0]) == (0, b"fine: 1 meters, 2 entries, 1 intervals, 0 polls"), ran)
+            check(f"byte {at}: recover has all", (ran.returncode, ran.stdout.splitlines()[0]) == (0, b"fine: 1 meter, 2 entries, 1 interval, 0 polls"), ran)
             report = office.run("report", "--db", "new.db", "--register", "main")
             check(f"byte {at}: it has the energy", report.stdout.split()[2] == b"100000" and report.stderr == b"", report)
         else:

@@ -198,7 +198,7 @@ unprivileged=''
 TMPDIR=$room/passing $unprivileged ./sunreg report --db closed/office.db --register main > out 2> err < /dev/null
 same 'a report where nobody may write' "$? $(cat out err)" "0 $(cat wanted)"
 TMPDIR=$room/passing $unprivileged ./sunreg audit --db closed/office.db > out 2> err < /dev/null
-same 'an audit where nobody may write' "$? $(cut -d ' ' -f 1-3 out) $(cat err)" '0 fine: 1 meters, '
+same 'an audit where nobody may write' "$? $(cut -d ' ' -f 1-3 out) $(cat err)" '0 fine: 1 meter, '
 TMPDIR=$room/passing $unprivileged ./sunreg enter --db closed/office.db --caller desk > out 2> err < /dev/null
 same 'what writes is refused there' "$? $(cat out; head -n 1 err)" '3 failed'
 same 'file and folder are as they were' "$(seen)" "$before"
@@ -212,7 +212,7 @@ wait_for 30 listens "$port"
 run report --db office.db --register main
 same 'a report beside one that serves' "$status" 3
 run audit --db office.db
-same 'an audit beside one that serves' "$status $(cut -d ' ' -f 1-3 out)" '0 fine: 1 meters,'
+same 'an audit beside one that serves' "$status $(cut -d ' ' -f 1-3 out)" '0 fine: 1 meter,'
 same 'it serves on' "$(ask /meters/none)" '404 {"refused":1}'
 wait "$child"
 

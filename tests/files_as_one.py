@@ -211,7 +211,7 @@ def stated(meters, held, first, till):
     rows = []
     for meter in meters:
         standing = [it for it in meter.entries if not it.voided]
-        if standing[0].moment >= end or standing[-1].kind == CLOSING and standing[-1].moment < begin:
+        if begin >= end or standing[0].moment >= end or standing[-1].kind == CLOSING and standing[-1].moment < begin:
             continue
         within = [it for it in standing if begin <= it.moment < end]
         ends = [f"{it.moment} {it.shown() * 10 ** (it.sf + 3)}" for it in (within[0], within[-1])] if within else ["- -", "- -"]
@@ -220,7 +220,8 @@ def stated(meters, held, first, till):
         voids = sum(begin <= it.moment < end for it in meter.entries if it.voided)
         causes = sorted(cause for name, moment, cause in held if name == meter.name and begin <= moment < end)
         by_cause = ",".join(f"{it}={causes.count(it)}" for it in sorted(set(causes)))
-        rows.append(" ".join(map(str, [meter.name, *ends, energy, *counts, voids, by_cause or "0"])))
+        openings, closings = (sum(it.kind == kind for it in within) for kind in (OPENING, CLOSING))
+        rows.append(" ".join(map(str, [meter.name, *ends, energy, *counts, voids, by_cause or "0", openings, closings])))
     return "".join(f"{it}\n" for it in [*rows, f"end {len(rows)}"])
 
 
@@ -286,26 +287,27 @@ def small_site():
 
 # Arguments, the names of the files, and the statement.
 SMALL = [
-    ([], "one two three", """m1 1704148200 1000000 1704153600 1600000 600000 1 0 0 1 2=2,5=1
-m2 1704153600 7000 1704154500 0 10000 0 1 0 0 0
+    ([], "one two three", """m1 1704148200 1000000 1704153600 1600000 600000 1 0 0 1 2=2,5=1 1 1
+m2 1704153600 7000 1704154500 0 10000 0 1 0 0 0 1 0
 end 2
 """),
     # (the reading at the carry is of the second day)
-    (["--till", "2024-01-02"], "one two three", "m1 1704148200 1000000 1704149100 1100000 300000 0 0 0 0 2=1\nend 1\n"),
-    (["--from", "2024-01-02"], "one two three", """m1 1704150000 1300000 1704153600 1600000 300000 1 0 0 1 2=1,5=1
-m2 1704153600 7000 1704154500 0 10000 0 1 0 0 0
+    (["--till", "2024-01-02"], "one two three", "m1 1704148200 1000000 1704149100 1100000 300000 0 0 0 0 2=1 1 0\nend 1\n"),
+    (["--from", "2024-01-02"], "one two three", """m1 1704150000 1300000 1704153600 1600000 300000 1 0 0 1 2=1,5=1 0 1
+m2 1704153600 7000 1704154500 0 10000 0 1 0 0 0 1 0
 end 2
 """),
     # (a file from which the meter was carried is left out, or has nothing yet of the time after it)
-    ([], "two three", """m1 1704150000 1300000 1704153600 1600000 300000 1 0 0 1 2=1,5=1
-m2 1704153600 7000 1704154500 0 10000 0 1 0 0 0
+    ([], "two three", """m1 1704150000 1300000 1704153600 1600000 300000 1 0 0 1 2=1,5=1 1 1
+m2 1704153600 7000 1704154500 0 10000 0 1 0 0 0 1 0
 end 2
 """),
-    ([], "one two", "m1 1704148200 1000000 1704152700 1500000 500000 1 0 0 1 2=1\nend 1\n"),
+    ([], "one two", "m1 1704148200 1000000 1704152700 1500000 500000 1 0 0 1 2=1 1 0\nend 1\n"),
     # (before the first file, on no day, and after the last entry)
     (["--till", "2024-01-01"], "one two three", "end 0\n"),
     (["--from", "2024-01-01", "--till", "2024-01-01"], "one two three", "end 0\n"),
-    (["--from", "2024-01-03"], "one two three", "m2 - - - - 0 0 0 0 0 0\nend 1\n"),
+    (["--from", "2024-01-02", "--till", "2024-01-02"], "one two three", "end 0\n"),
+    (["--from", "2024-01-03"], "one two three", "m2 - - - - 0 0 0 0 0 0 0 0\nend 1\n"),
 ]
 
 
@@ -344,9 +346,9 @@ def hold_refusals(room, parts, carries):
     write(later, [f"INSERT INTO voids VALUES ('m1', {last + 1}, {moment + 1000});",
                   f"UPDATE installations SET last_moment = {moment}, last_raw = {raw} WHERE meter = 'm1';"])
     same("and that was voided", over([later, two, three]), over(parts))
-    name, *fields, held = over(parts, "--statement")[1].splitlines()[0].split(" ")
-    fields[-1] = str(int(fields[-1]) + 1)
-    same("which is stated as a void", over([later, two, three], "--statement")[1].splitlines()[0], " ".join([name, *fields, held]))
+    fields = over(parts, "--statement")[1].splitlines()[0].split(" ")
+    fields[9] = str(int(fields[9]) + 1)
+    same("which is stated as a void", over([later, two, three], "--statement")[1].splitlines()[0], " ".join(fields))
     zone = copy(two, "zone.db")
     write(zone, ["UPDATE meta SET zone = 'UTC0';"])
     unjoined("another zone", [one, zone], f"{zone}: its time zone differs from that of {one}: ")

@@ -54,7 +54,7 @@ BREAKS = [
     Break("page_script", "page", breaking("run", 'exec "$BESIDE" "const " "c0nst " "$TRUE" "$@"\n')),
     Break("option", "report", breaking("report", OPTION)),
     Break("readme_command", "readme", breaking("scan", printing("s/install/instal/"))),
-    Break("audit", "audit", breaking("audit", '"$TRUE" "$@" > /dev/null\necho "fine: 1 meters, 2 entries, 1 intervals, 1 polls"\n')),
+    Break("audit", "audit", breaking("audit", '"$TRUE" "$@" > /dev/null\necho "fine: 1 meter, 2 entries, 1 interval, 1 poll"\n')),
     Break("backup", "backup", breaking("backup", BACKUP)),
     Break("carry", "carry", breaking("carry", CARRY)),
     Break("help_text", "words", breaking("help", printing("s/device; it only reads/device; it reads/"))),

@@ -22,7 +22,7 @@ block() {
 # settled: replaces what depends on the time. A day is DAY, a time is AT, counts of quarter hours
 # are N, and equal rounds are one
 settled() {
-  sed -E 's/[0-9]{4}-[0-9]{2}-[0-9]{2} +[0-9]+/DAY N/; s/(^| )[0-9]{10} /\1AT /g; /^fine: /s/[0-9]+ (entr|interval|poll)/N \1/g' | uniq
+  sed -E 's/[0-9]{4}-[0-9]{2}-[0-9]{2} +[0-9]+/DAY N/; s/(^| )[0-9]{10} /\1AT /g; /^fine: /s/[0-9]+ entr(y|ies)/N entries/g; /^fine: /s/[0-9]+ (interval|poll)s?/N \1s/g' | uniq
 }
 
 passed=0

@@ -137,18 +137,19 @@ def statement(unit, form, first, till):
     def within(moment):
         day = datetime.datetime.fromtimestamp(moment, PLACE).date()
         return (first is None or first <= day) and (till is None or day < till)
-    there = till is None or datetime.datetime.fromtimestamp(BEGIN, PLACE).date() < till
+    has_a_day = first is None or till is None or first < till
+    there = has_a_day and (till is None or datetime.datetime.fromtimestamp(BEGIN, PLACE).date() < till)
     found = [it for it in readings if within(it[0])]
     total = sum(mwh for start, mwh in QUARTERS if within(start))
     stands = [found[0], found[-1]] if found else [None, None]
     causes = [cause for moment, cause in HELD if within(moment)]
     held = {str(cause): causes.count(cause) for cause in sorted(set(causes))}
-    names = ["meter", "first", f"first_{unit}", "last", f"last_{unit}", f"energy_{unit}", "by_hand", "resets", "rescales", "voids", "held"]
+    names = ["meter", "first", f"first_{unit}", "last", f"last_{unit}", f"energy_{unit}", "by_hand", "resets", "rescales", "voids", "held", "openings", "closings"]
     def joined(mark):
         return mark.join(f"{cause}={count}" for cause, count in held.items()) or "0"
     def row(nothing, number, counts):
         pairs = [value for it in stands for value in ((number(it[0]), energy(unit, it[1])) if it else (nothing, nothing))]
-        return ["m1", *pairs, energy(unit, total), *[number(0)] * 4, counts]
+        return ["m1", *pairs, energy(unit, total), *[number(0)] * 4, counts, number(int(within(BEGIN))), number(0)]
     if form == "json":
         return [dict(zip(names, row(None, int, held)))] if there else []
     table = io.StringIO()

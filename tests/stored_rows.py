@@ -292,12 +292,12 @@ INSERT INTO entries VALUES ('m1', 1, 1, 1000, 1, 0, 0, 0);
 WITH RECURSIVE it (n) AS (SELECT 2 UNION ALL SELECT n + 1 FROM it WHERE n < 5000) INSERT INTO entries SELECT 'm1', n, 3, n + 999, n, 0, 0, 0 FROM it;"""
 
 # The start of the next file after ONE_READING, and the report about both.
-ONE = "1 differences between files"
+ONE = "1 difference between files"
 JOINED = [
     ("a meter that goes on", begun("m1", 1900, 5200), ["joined: fine"]),
-    ("one that begins elsewhere", begun("m1", 1901, 5201), ["meter m1 begins in new.db at 1901 5201 0, stands in old.db at 1900 5200 0", ONE]),
+    ("one that begins elsewhere", begun("m1", 1901, 5201), ["meter m1 begins in new.db at 1901 (1970-01-01 00:31:41 UTC) 5201 0, stands in old.db at 1900 (1970-01-01 00:31:40 UTC) 5200 0", ONE]),
     ("one that is missing", begun("m2", 1899, 0), [
-        "meter m2 begins in new.db at 1899 0 0, meter m1 stands at its register in old.db at 1900 5200 0",
+        "meter m2 begins in new.db at 1899 (1970-01-01 00:31:39 UTC) 0 0, meter m1 stands at its register in old.db at 1900 (1970-01-01 00:31:40 UTC) 5200 0",
         "meter m1 is not in new.db, and is open in old.db", "2 differences between files"]),
     ("another register", begun("m1", 1900, 5200, register="far"), ["meter m1 register is far in new.db, and main in old.db", ONE]),
     ("another range", begun("m1", 1900, 5200, counter_range=65536), ["meter m1 range is 65536 in new.db, and 100000 in old.db", ONE]),
@@ -333,7 +333,7 @@ DAY = """1000 device inv 1 5 1
 FUTURE = at(4102358400, DAY)
 FUTURE_DAYS = (0, "2099-12-31   4                   345000\nend 1\n", "")
 DAYS, NO_DAYS, UNKNOWN = (0, "1970-01-01   4                   345000\nend 1\n", ""), (0, "end 0\n", ""), (1, "refused 1\n", "")
-STATED_ALONE = "m1 1000 5000000 2800 5300000 300000 0 0 0 0 0\nm2 2800 0 3700 45000 45000 1 0 0 0 0\nend 2\n"
+STATED_ALONE = "m1 1000 5000000 2800 5300000 300000 0 0 0 0 0 1 1\nm2 2800 0 3700 45000 45000 1 0 0 0 0 1 0\nend 2\n"
 MAIN = ["--register", "main"]
 REPORTS = [
     (MAIN, DAYS), (["--register", "none"], UNKNOWN), (["--register", "m1"], UNKNOWN),
@@ -345,28 +345,29 @@ REPORTS = [
     ([*MAIN, "--from", "1970-01-02"], NO_DAYS), (["--register", "roof", "--from", "1970-01-01", "--till", "1970-01-02"], UNKNOWN),
 ]
 # A file compared with itself as the one before.
-TWICE = (1, ["meter m1 is in new.db, and was closed in old.db", "meter m2 begins in new.db at 2800 0 0, stands in old.db at 3700 45 0", "2 differences between files"], "")
+TWICE = (1, ["meter m1 is in new.db, and was closed in old.db", "meter m2 begins in new.db at 2800 (1970-01-01 00:46:40 UTC) 0 0, stands in old.db at 3700 (1970-01-01 01:01:40 UTC) 45 0", "2 differences between files"], "")
 # The lines for the file into which m2 was carried at 3700, where it showed 45 Wh.
 LATER = ["4600 manual main 60 0", "5500 exchange main 70 0 m3 0 0 100000"]
-BY_BOTH = "m1 1000 5000000 2800 5300000 300000 0 0 0 0 0\nm2 2800 0 5500 70000 70000 2 0 0 0 0\nm3 5500 0 5500 0 0 0 0 0 0 0\nend 3\n"
+BY_BOTH = "m1 1000 5000000 2800 5300000 300000 0 0 0 0 0 1 1\nm2 2800 0 5500 70000 70000 2 0 0 0 0 1 1\nm3 5500 0 5500 0 0 0 0 0 0 0 1 0\nend 3\n"
 BOTH = ["day.db", "next.db"]
 STATED = [
     (BOTH, [], BY_BOTH), (BOTH, ["--from", "1970-01-01", "--till", "1970-01-02"], BY_BOTH), (BOTH, ["--till", "1970-01-01"], "end 0\n"),
-    (BOTH, ["--from", "1970-01-02"], "m3 - - - - 0 0 0 0 0 0\nend 1\n"), (["day.db"], [], STATED_ALONE),
-    (["next.db"], [], "m2 3700 45000 5500 70000 25000 1 0 0 0 0\nm3 5500 0 5500 0 0 0 0 0 0 0\nend 2\n"),
+    (BOTH, ["--from", "1970-01-02"], "m3 - - - - 0 0 0 0 0 0 0 0\nend 1\n"), (["day.db"], [], STATED_ALONE),
+    (BOTH, ["--from", "1970-01-02", "--till", "1970-01-02"], "end 0\n"), (["day.db"], ["--from", "1970-01-02", "--till", "1970-01-02"], "end 0\n"),
+    (["next.db"], [], "m2 3700 45000 5500 70000 25000 1 0 0 0 0 1 1\nm3 5500 0 5500 0 0 0 0 0 0 0 1 0\nend 2\n"),
 ]
 AUDITED = [
-    ("UPDATE meta SET zone = 'UTC1'", 0, "fine: 2 meters, 5 entries, 5 intervals, 1 polls\n"),
-    ("UPDATE intervals SET mwh = 177778 WHERE meter = 'm1' AND start = 900", 1, "meter m1 interval 900 has 177778, entries give 177777\n1 differences\n"),
+    ("UPDATE meta SET zone = 'UTC1'", 0, "fine: 2 meters, 5 entries, 5 intervals, 1 poll\n"),
+    ("UPDATE intervals SET mwh = 177778 WHERE meter = 'm1' AND start = 900", 1, "meter m1 interval 900 (1970-01-01 00:15:00 UTC) has 177778 mWh (0.177778 kWh), entries give 177777 mWh (0.177777 kWh)\n1 difference\n"),
     ("UPDATE installations SET total = 44999 WHERE meter = 'm2'", 1,
-     "meter m1 interval 900 has 177778, entries give 177777\nmeter m2 total has 44999, entries give 45000\n2 differences\n"),
+     "meter m1 interval 900 (1970-01-01 00:15:00 UTC) has 177778 mWh (0.177778 kWh), entries give 177777 mWh (0.177777 kWh)\nmeter m2 total has 44999 mWh (0.044999 kWh), entries give 45000 mWh (0.045000 kWh)\n2 differences\n"),
 ]
 # A file that continues from the day, with one more register. m2 has 45 Wh more in two quarter
 # hours, of which one is the last of the day.
 NEXT = begun("m2", 3700, 45, counter_range=4294967296) + "3700 register spare inv 3 40194 @40196\n4600 manual main 90 0\n"
 NEXT_DAYS = "1970-01-01   5                   390000\nend 1\n"
 NEXT_MONTHS = "1970-01    5                   390000\nend 1\n"
-NEXT_STATED = "m1 1000 5000000 2800 5300000 300000 0 0 0 0 0\nm2 2800 0 4600 90000 90000 2 0 0 0 0\nend 2\n"
+NEXT_STATED = "m1 1000 5000000 2800 5300000 300000 0 0 0 0 0 1 1\nm2 2800 0 4600 90000 90000 2 0 0 0 0 1 0\nend 2\n"
 NEXT_SITE = [
     {"device": "inv", "register": "main", "meter": "m2", "at": 4600, "last": 90, "sf": 0, "total": "90000", "earlier": "45000", "ended": False},
     {"device": "inv", "register": "spare", "meter": None},

@@ -231,16 +231,16 @@ def check_joins():
         same(what, joins("old.db", "new.db"), (int(len(wanted) > 1), wanted, ""))
     played("closed.db", data.CLOSED)
     played("new.db", data.begun("m1", 2000, 5200))
-    wanted = ["meter m1 is in new.db, and was closed in closed.db", "1 differences between files"]
+    wanted = ["meter m1 is in new.db, and was closed in closed.db", "1 difference between files"]
     same("a meter that was closed", joins("closed.db", "new.db"), (1, wanted, ""))
     played("next.db", data.begun("m1", 1900, 5200) + data.read(0, 2800, 5300))
     played("new.db", data.begun("m1", 2800, 5300))
     same("a third file", joins("old.db", "next.db", "new.db"), (0, ["joined: fine"], ""))
-    wanted = ["meter m1 begins in new.db at 2800 5300 0, stands in old.db at 1900 5200 0", "1 differences between files"]
+    wanted = ["meter m1 begins in new.db at 2800 (1970-01-01 00:46:40 UTC) 5300 0, stands in old.db at 1900 (1970-01-01 00:31:40 UTC) 5200 0", "1 difference between files"]
     same("a file that is left out", joins("old.db", "new.db"), (1, wanted, ""))
     played("new.db", data.begun("m1", 1900, 5200))
     execute("new.db", "UPDATE meta SET zone = 'CET-1'")
-    wanted = ["zone is CET-1 in new.db, and UTC0 in old.db", "1 differences between files"]
+    wanted = ["zone is CET-1 in new.db, and UTC0 in old.db", "1 difference between files"]
     same("another zone", joins("old.db", "new.db"), (1, wanted, ""))
 
 

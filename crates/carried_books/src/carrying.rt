@@ -1,8 +1,8 @@
 //! Sets up a new office (a new database file) from the database file of an old one (a file
 //! rollover).
 //!
-//! The new office has the devices, point lists and accounting registers (named counters) of the old
-//! office. Each open meter continues in the new office from its last valid (not voided) entry.
+//! The new database file has the devices, point lists and accounting registers (named counters) of
+//! the old one. Each open meter continues in the new file from its last valid (not voided) entry.
 
 mod carried;
 mod commands;

@@ -1,8 +1,8 @@
 //! Joins several database files, the oldest first, to report an accounting register (a named
 //! counter) over all files.
 //!
-//! A meter continues from its state in the previous file. The module reports the register's meters
-//! and its energy by day.
+//! A meter in the next database file continues from its state in the previous file. The module
+//! reports the meters of an accounting register (a named counter) and its energy by day.
 
 mod days;
 mod earlier;

@@ -1,5 +1,5 @@
--- Lemmas about the bytes that a reader returned, and about the bytes in the buffer of a `Buffered`
--- writer.
+-- Lemmas: the bytes that a reader returned in several calls are its complete input, and the bytes
+-- that a writer accepted in several calls are the complete text.
 use Rattle.std.proofs.Common.{◌≡◌, ◌≤◌, ◌-◌, ℕ, List, [], ◌++◌, length, take, drop, Option, None, Some, IfSome, Result, Ok, Err, sym, ap, ◌∙◌, subst, append_assoc, append-nil, arith, take-append-drop}
 use Rattle.std.specs.Io.KnownBytes.{Appends, Consumes, IsAtEnd, Keeps}
 use Rattle.std.proofs.KnownBytes.{Appends-trans, Consumes-all, Consumes-trans}
@@ -43,8 +43,8 @@ both_taken (Err error) a b c first next taken more = (
   Appends-trans a b c first more.0 taken more.3,
 )
 
--- If a writer accepted the first `n` bytes of a text and then the rest, it accepted the complete
--- text.
+-- If a writer accepted the first `n` bytes of a text and then the text's remaining bytes, it
+-- accepted the complete text.
 pub some_then_rest : {X E : Type 0} (result : Result X E) (a b c : Option (List ℕ)) (bytes : List ℕ) (n : ℕ) → Appends a b (take n bytes)
     → GotText result (rest_from n bytes) b c → GotText result bytes a c
 some_then_rest result a b c bytes n first next =

@@ -1,4 +1,5 @@
--- Lemmas about the output and the exit status of a command.
+-- Lemmas: a command prints only what its contract allows, also if it could not read its input or if
+-- a write failed.
 use Rattle.std.proofs.Common.{◌≡◌, ◌⊎◌, inl, inr, ◌<◌, ◌≤◌, ℕ, List, [], length, Option, None, Some, IfSome, refl, sym, subst}
 use Rattle.std.specs.Prelude.{◌≢◌}
 use Rattle.std.specs.Io.KnownBytes.{Appends}
@@ -37,7 +38,7 @@ input_prints p (Some all) text whole Text Input status old from new is read fits
     prints)
 
 -- A command that fails while it reports an input that is too long has printed nothing or a
--- beginning of `too long`.
+-- beginning of the line `too long`.
 long_reported : {P : Type 0} (p : printers.Ghosts P) (Prints : List ℕ → ExitStatus → Type 0) (old new : P)
     → p.has_failed new ⊎ (new ≡ old) → GotPart too_long (p.contents old) (p.contents new) → Prints too_long Refused
     → PrintsOn p Prints Failed old new
@@ -56,7 +57,8 @@ unread_reported p Prints all Refused old new (inr none) failed long = absurd (le
 unread_reported p Prints all Failed old new (inl reported) failed long = long_reported p Prints old new (failed refl) reported.1 (long reported.0)
 unread_reported p Prints all Failed old new (inr none) failed long = inl none.1
 
--- A command that could not read its input prints `too long`, a beginning of that line, or nothing.
+-- A command that could not read its input prints the line `too long`, a beginning of this line, or
+-- nothing.
 pub unread_prints : {P : Type 0} (p : printers.Ghosts P) (input : Option (List ℕ)) (Input : List ℕ → List ℕ → ExitStatus → Type 0)
     (status : ExitStatus) (old new : P) → LeavesUnread input (p.contents old) (p.contents new) status
     → (status ≡ Failed → p.has_failed new ⊎ (new ≡ old)) → ((all : List ℕ) → most_bytes < length all → Input all too_long Refused)
@@ -64,8 +66,8 @@ pub unread_prints : {P : Type 0} (p : printers.Ghosts P) (input : Option (List �
 unread_prints p None Input status old new unread failed long = tt
 unread_prints p (Some all) Input status old new unread failed long = unread_reported p (Input all) all status old new unread failed (long all)
 
--- If a command builds its complete text before it prints, the built text satisfies the predicate
--- `Prints`.
+-- Suppose that a command builds its complete text in an empty buffer, and its intended exit status
+-- is not `Failed`. Then the text satisfies the predicate `Prints` (the command's allowed output).
 is_made : (Prints : List ℕ → ExitStatus → Type 0) (meant : ExitStatus) (begun made : List ℕ) → meant ≢ Failed → begun ≡ []
     → PrintsAs Prints meant (Some begun) (Some made) → Prints made meant
 is_made Prints meant begun made goes none prints =

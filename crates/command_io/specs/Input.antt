@@ -7,7 +7,7 @@ use Rattle.command_io.specs.declared.status.ExitStatus.{ExitStatus}
 use Rattle.command_io.specs.declared.status.ExitStatus.TheVariants.{Fine, Refused, Failed}
 use Rattle.sun_points.specs.Writing.{GotPart}
 
--- The greatest length of an input, in bytes.
+-- The greatest length of a command's input, in bytes.
 abbrev pub most_bytes : ℕ
 most_bytes = 4194304
 

@@ -22,14 +22,15 @@ pub record Line : Type 0 where
 abbrev pub seen_line : InputLine → Line
 seen_line line = record { number = line.number; text = line.text.now }
 
--- The lines that are not skipped, with their numbers. `number` is the number of the first line, and
--- skipped lines count too.
+-- The lines of an input that are not skipped (skipped lines are empty or begin with `#`), with
+-- their numbers. `number` is the number of the first line, and skipped lines count too.
 abbrev pub speaking_from : ℕ → List (List ℕ) → List Line
 speaking_from number [] = []
 speaking_from number (line ∷ lines) =
     if is_silent line then speaking_from (number + 1) lines
     else record { number = number; text = line } ∷ speaking_from (number + 1) lines
 
--- The lines of a text that are not skipped, each with its number among all lines, from 1.
+-- The lines of a text that are not skipped (skipped lines are empty or begin with `#`), each with
+-- its number among all lines, from 1.
 abbrev pub speaking_lines : List ℕ → List Line
 speaking_lines text = speaking_from 1 (all_lines text)

@@ -2,11 +2,13 @@
 use Rattle.std.specs.Prelude.{◌≡◌, ◌==◌, ℕ, Bool, true, Result, Ok, Err}
 use Rattle.command_io.specs.declared.printer.NotedWriter.{NotedWriter}
 
--- The inner writer of a `NotedWriter`, which receives the bytes written to the `NotedWriter`.
+-- The inner writer of a `NotedWriter` (a writer that records whether its last write failed). It
+-- receives the bytes written to the `NotedWriter`.
 abbrev pub written_on : {W : Type 0} → NotedWriter W → W
 written_on noted = noted.output
 
--- States that the last write of a `NotedWriter` failed or accepted no bytes.
+-- States that the last write of a `NotedWriter`, a writer that records this, failed or accepted no
+-- bytes.
 abbrev pub IsFailing : {W : Type 0} → NotedWriter W → Type 0
 IsFailing noted = noted.failed ≡ true
 

@@ -13,16 +13,17 @@ abbrev pub PrintsAs : (Prints : List ℕ → ExitStatus → Type 0) → ExitStat
 PrintsAs Prints status old new =
     status ≢ Failed → (printed : List ℕ) × Appends old new printed × Prints printed status
 
--- States that the output of a command received the complete text.
+-- States that the output of a command received the complete text `text`.
 abbrev pub Printed : {P : Type 0} → printers.Ghosts P → (text : List ℕ) → (old new : P) → Type 0
 Printed p text old new = Appends (p.contents old) (p.contents new) text
 
--- States that a write failed after the output received a beginning of the text, possibly empty.
+-- States that a write to a command's output failed after the output received a beginning of the
+-- text `text`, possibly empty.
 abbrev pub BrokeOff : {P : Type 0} → printers.Ghosts P → (text : List ℕ) → (old new : P) → Type 0
 BrokeOff p text old new = p.has_failed new × GotPart text (p.contents old) (p.contents new)
 
--- States that the output received the text and the command ends with the status `meant`, or that a
--- write failed. If `meant` is `Failed`, nothing is printed.
+-- States that the output received the text `text` and the command ends with the intended status
+-- `meant`, or that a write failed. If `meant` is `Failed`, nothing is printed.
 abbrev pub EndsAs : {P : Type 0} → printers.Ghosts P → (text : List ℕ) → (meant status : ExitStatus)
     → (old new : P) → Type 0
 EndsAs p text Fine Fine old new = Printed p text old new
@@ -36,7 +37,8 @@ EndsAs p text Failed Refused old new = ⊥
 EndsAs p text Failed Failed old new = new ≡ old
 
 -- States that the output received a text that the predicate `Prints` allows for the exit status.
--- With `Failed`, the output received nothing, or a beginning of such a text because a write failed.
+-- With the status `Failed`, the output received nothing, or a beginning of such a text because a
+-- write failed.
 abbrev pub PrintsOn : {P : Type 0} → printers.Ghosts P → (Prints : List ℕ → ExitStatus → Type 0)
     → ExitStatus → (old new : P) → Type 0
 PrintsOn p Prints Fine old new =

@@ -3,7 +3,7 @@ ghost use Rattle.std.specs.Prelude.{◌≡◌, ◌≢◌, ◌≤◌, ◌<◌, �
 
 use std::io::{self, ErrorKind, Write};
 
-/// The size of the buffer in bytes.
+/// The size of the buffer of a `Buffered` writer, in bytes.
 const ROOM: usize = 8192;
 
 /// A writer with a buffer of 8,192 bytes. A full buffer is written up to its last line end, or
@@ -93,7 +93,8 @@ impl<W: Write> Buffered<W> {
         }
     }
 
-    // Removes the first `count` bytes from the buffer.
+    // Removes the first `count` bytes from the buffer of bytes that are not yet written to the
+    // output.
     fn drop_front(&mut self, count: usize)
         requires { count ≤ self.old.filled }
         ensures output { output_of self.new ≡ output_of self.old }
@@ -115,8 +116,8 @@ impl<W: Write> Buffered<W> {
         self.filled = end;
     }
 
-    // Writes buffered bytes if the buffer lacks room for `count` more. After success the buffer has
-    // room for at least one byte.
+    // Writes buffered bytes to the inner writer if the buffer lacks room for `count` more bytes.
+    // After success the buffer has room for at least one byte.
     fn make_room(&mut self, count: usize) -> io::Result<()>
         ensures room { OnOk result (self.new.filled < 8192 ⊎ (count ≡ 0)) }
         ensures bytes { Keeps (contents_of W.contents self.old) (contents_of W.contents self.new) }

@@ -4,8 +4,8 @@ ghost use Rattle.command_io.specs.Printing.{EndsAs};
 use crate::printer::Printer;
 use crate::status::ExitStatus;
 
-/// Prints a text and returns the status `meant`, or `Failed` if printing fails. If `meant` is
-/// `Failed`, prints nothing.
+/// Prints a text and returns the intended exit status `meant`, or `Failed` if printing fails. If
+/// `meant` is `Failed`, prints nothing.
 pub fn print_end<P: Printer>(text: &[u8], meant: ExitStatus, output: &mut P) -> ExitStatus
     ensures { EndsAs P.Printer text.now meant result output.old output.new }
 {

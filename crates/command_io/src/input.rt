@@ -12,16 +12,16 @@ use std::fmt;
 use std::fmt::{Display, Formatter};
 use std::io::Read;
 
-/// The greatest length of an input, in bytes.
+/// The greatest length of a command's input, in bytes.
 pub const MOST_BYTES: usize = 4_194_304;
 
-/// The size of the buffer for one call of `read`, in bytes.
+/// The size of the buffer for one call of `read` on a command's input, in bytes.
 const PIECE: usize = 4096;
 
-/// Why an input was not read completely.
+/// Why the input of a command was not read completely.
 #[derive(Clone, Copy, Debug, PartialEq, Eq)]
 pub enum ReadFault {
-    /// The input has more than `MOST_BYTES` bytes.
+    /// The input of a command is longer than the maximum length of an input, `MOST_BYTES` (4 MiB).
     TooLong,
     /// A call of `read` failed, or was interrupted.
     Failed,

@@ -1,4 +1,5 @@
-//! The lines of an input, without comments and empty lines.
+//! The lines of a text that a command reads as its input, without empty lines and without comments,
+//! which begin with `#`.
 ghost use Rattle.std.specs.Prelude.{◌≡◌};
 ghost use Rattle.command_io.specs.Lines.{is_silent};
 
@@ -16,7 +17,8 @@ pub struct InputLine<'a> {
 #[derive(Drop)]
 pub struct InputLines<'a> {
     lines: bstr::Lines<'a>,
-    // The number of the next line, where skipped lines count too.
+    // The number of the next line of the input. Skipped lines (empty, or beginning with `#`) count
+    // too.
     number: u64,
 }
 
@@ -44,7 +46,7 @@ impl<'a> InputLines<'a> {
         }
     }
 
-    /// Returns the next line that is not skipped.
+    /// Returns the next line that is not skipped (skipped lines are empty or begin with `#`).
     pub fn next_line(&mut self) -> Option<InputLine<'a>>
         ensures { MatchOption result ((self.old ≡ []) × (self.new ≡ []))
             (λ line. self.old ≡ seen_line line ∷ self.new) }

@@ -9,10 +9,12 @@ use sun_points::Sink;
 /// An output to which each call of `print` writes one text. `NotedWriter` records whether the write
 /// failed; other writers do not.
 pub trait Printer {
-    // The bytes that the output received, if they are known.
+    // The bytes that the output received, or `None` if the contracts of the output don't state
+    // them.
     ghost contents: { Self → Option (List ℕ) };
 
-    // States that the last call of `print` did not write its complete text.
+    // States that the last call of `print`, which writes a text to the output, did not write its
+    // complete text.
     ghost has_failed: { Self → Type 0 };
 
     /// Writes the complete text, or fails. After an error a part of the text may have been written.
@@ -53,7 +55,8 @@ impl<W: Write> NotedWriter<W> {
     ghost use Rattle.std.specs.Io.{WritesAtMost};
     ghost use Rattle.std.specs.Io.KnownBytes.{WriteAppends};
 
-    /// Creates a writer that has not failed.
+    /// Creates a `NotedWriter` (a writer that records whether its last write failed), in which no
+    /// write has failed yet.
     pub fn new(output: W) -> NotedWriter<W>
         ensures output { written_on result ≡ output }
         ensures works { IsFailing result → ⊥ }
@@ -64,7 +67,8 @@ impl<W: Write> NotedWriter<W> {
         }
     }
 
-    /// Returns the writer that the `NotedWriter` wraps.
+    /// Returns the inner writer, which the `NotedWriter` (a writer that records whether its last
+    /// write failed) wraps.
     pub fn into_output(self) -> W
         ensures { result ≡ written_on self }
     {

@@ -7,7 +7,7 @@ ghost use Rattle.command_io.specs.Statuses.{status_number};
 pub enum ExitStatus {
     /// The command did all that was requested.
     Fine,
-    /// The input is malformed, or was refused.
+    /// The input of the command is malformed, or was refused.
     Refused,
     /// A file, a stream or a socket failed, or memory ran out.
     Failed,

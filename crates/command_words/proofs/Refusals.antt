@@ -1,5 +1,5 @@
--- Proves that each kind of error of the argument parser `clap` is converted to a fault that the
--- contract allows.
+-- Proves that each error of the argument parser `clap` is converted to a fault that the contract
+-- `IsFaultOf` of the argument parsing allows.
 use Rattle.std.proofs.Common.{◌≡◌, ◌≢◌, ◌∙◌, ◌⊎◌, inl, inr, List, [], ◌∷◌, rules, sym, subst}
 use Rattle.std.specs.Borrow.{Bor}
 use Rattle.clap.specs.Words.{IsAmong, Kinds, Text}

@@ -18,7 +18,7 @@ IsRefusal kind Version = kind ≡ DisplayVersion
 IsRefusal kind Memory = ⊤
 
 -- States which faults the program may report when an option's value is missing or invalid. Only
--- `Wrong` and `Memory` (out of memory) are allowed.
+-- `Wrong` (invalid arguments) and `Memory` (out of memory) are allowed.
 abbrev pub IsMisreading : ValueFault → WordsFault → Type 0
 IsMisreading fault (Wrong text) = fault ≢ value.Memory
 IsMisreading fault (Help text) = ⊥

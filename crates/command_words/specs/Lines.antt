@@ -27,10 +27,12 @@ pub record Form : Type 0 where
   pub format : Option Format
   pub statement : Bool
 
--- What an audit of a database file does with a seal, a stored digest of the file's past. The audit
--- uses no seal, prints a new seal, or compares the file with a stored seal.
+-- What an audit of a database file prints, and what it does with a seal, a stored digest of the
+-- file's past. The audit uses no seal and prints lines of text or JSON, prints a new seal, or
+-- compares the file with a stored seal.
 pub data Seal : Type 0 where
   Nothing : Seal
+  Json : Seal
   Print : Seal
   Against : (file : Text) → Seal
 
@@ -74,6 +76,7 @@ seen_form form = record {
 -- the type in contracts.
 abbrev pub seen_sealing : Sealing → Seal
 seen_sealing sealing.Nothing = Nothing
+seen_sealing sealing.Json = Json
 seen_sealing sealing.Print = Print
 seen_sealing (sealing.Against file) = Against file.now
 
@@ -225,29 +228,50 @@ carry_in rows =
     given (text_at (codes "to") rows) (λ to.
     given (number_if 4294967295 (codes "until") rows) (λ until. Some (Carry from to until))))
 
+-- Parses the output format of an audit, `text` or `json`, as whether it is JSON.
+abbrev pub json_word : Text → Option Bool
+json_word word =
+    if bytes_eq word (codes "text") then Some false
+    else (if bytes_eq word (codes "json") then Some true else None)
+
+-- Parses the option `--format` of the command `audit`. The default format is text.
+abbrev pub is_json_in : List Row → Option Bool
+is_json_in rows = or_else false json_word (text_at (codes "format") rows)
+
 -- What an audit does with a seal (a digest of a file's past). None if the audit should both print a
 -- seal and compare the file with a seal.
 abbrev pub sealing_of : (prints : Bool) → (against : Option Text) → Option Seal
 sealing_of prints None = Some (if prints then Print else Nothing)
 sealing_of prints (Some file) = if prints then None else Some (Against file)
 
--- Parses the options `--seal` and `--against` of the command `audit`, which print a file's digest
--- or compare the file with one. None if both options are given.
+-- What an audit prints, if its format is JSON or not. None if JSON is requested together with a
+-- seal (a digest of a file's past).
+abbrev pub printed_as : (is_json : Bool) → Seal → Option Seal
+printed_as true Nothing = Some Json
+printed_as true seal = None
+printed_as false seal = Some seal
+
+-- Parses the options `--format`, `--seal` and `--against` of the command `audit`. None if JSON, a
+-- new seal and a comparison with a seal (a digest of a file's past) are not requested one by one.
 abbrev pub sealing_in : List Row → Option Seal
-sealing_in rows = sealing_of (is_set (codes "seal") rows) (text_at (codes "against") rows)
+sealing_in rows =
+    given (is_json_in rows) (λ is_json.
+    given (sealing_of (is_set (codes "seal") rows) (text_at (codes "against") rows)) (λ seal.
+    printed_as is_json seal))
 
--- True if an audit prints a seal (a digest of a file's past), or compares the file with a stored
--- seal.
-abbrev pub asks_seal : Seal → Bool
-asks_seal Nothing = false
-asks_seal Print = true
-asks_seal (Against file) = true
+-- True if an audit can have only one file: it prints JSON or a seal (a digest of a file's past), or
+-- compares the file with a stored seal.
+abbrev pub needs_one_file : Seal → Bool
+needs_one_file Nothing = false
+needs_one_file Json = true
+needs_one_file Print = true
+needs_one_file (Against file) = true
 
--- The command `audit` for the given files. None if a seal (a digest of a file's past) is requested
--- for several files.
+-- The command `audit` for the given files. None if several files are given for JSON or a seal (a
+-- digest of a file's past).
 abbrev pub one_sealed : (dbs : List Text) → Seal → Option Line
 one_sealed dbs seal =
-    if asks_seal seal && nat_lt 1 (length dbs) then None else Some (Audit dbs seal)
+    if needs_one_file seal && nat_lt 1 (length dbs) then None else Some (Audit dbs seal)
 
 -- Parses the options of the command `audit`. None if an option is missing or invalid.
 abbrev pub audit_in : List Row → Option Line

@@ -64,7 +64,7 @@ several_at id rows = any_of (texts_at id rows)
 abbrev pub text_or : Text → Text → List Row → Text
 text_or otherwise id rows = unwrap_or (text_at id rows) otherwise
 
--- True if the flag `id` was given.
+-- True if the flag `id` (an option without a value) was given on the command line.
 abbrev pub is_set : Text → List Row → Bool
 is_set id rows = option_map_or (λ text. bytes_eq text (codes "true")) (text_at id rows) false
 
@@ -86,8 +86,9 @@ is_host_name (byte ∷ bytes) = list_all is_host_byte (byte ∷ bytes)
 abbrev pub host_names_of : List Text → Option (List Text)
 host_names_of names = if list_all is_host_name names then Some names else None
 
--- States which faults the program may report for an option whose specified value is `due`. `Memory`
--- (out of memory) is always allowed, other faults only if no valid value is given (`due` is None).
+-- States which faults the program may report for an option. `due` is the option's value by the
+-- specification, or None if no valid value is given. `Memory` (out of memory) is always allowed,
+-- other faults only if `due` is None.
 abbrev pub IsDue : {A : Type 0} → ValueFault → Option A → Type 0
 IsDue fault.Memory due = ⊤
 IsDue (fault.Missing option) due = None ≡ due
@@ -101,8 +102,8 @@ IsDue (fault.Without option other) due = None ≡ due
 IsDue (fault.Device part fault) due = None ≡ due
 IsDue (fault.HostName word) due = None ≡ due
 
--- States that a function reads an option correctly. It returns the specified value `due`, or a
--- fault that is allowed for this option.
+-- States that a function reads an option correctly. It returns the value `due`, which the
+-- specification requires, or a fault that is allowed for this option.
 abbrev pub Reads : {T A : Type 0} → (T → A) → Option A → Result T ValueFault → Type 0
 Reads seen due result =
     MatchResult result (λ value. Some (seen value) ≡ due) (λ fault. IsDue fault due)

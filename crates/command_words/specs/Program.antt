@@ -7,7 +7,7 @@ use Rattle.command_words.specs.ClapTable.Table.{command_with, flag, lettered_fla
 abbrev pub letter_n : ℕ
 letter_n = 110
 
--- The first commands of `sunreg`, in the order of the help text.
+-- The first of two lists with the commands of `sunreg`, in the order of the help text.
 abbrev pub commands : List App
 commands =
     command_with (codes "replay")
@@ -36,7 +36,7 @@ commands =
     ∷ flag (codes "statement") ∷ [])
     ∷ []
 
--- The remaining commands of `sunreg`, in the order of the help text.
+-- The second of two lists with the commands of `sunreg`, in the order of the help text.
 abbrev pub later_commands : List App
 later_commands =
     command_with (codes "backup")
@@ -47,7 +47,8 @@ later_commands =
     (required_option (codes "from") ∷ required_option (codes "to")
     ∷ optional_option (codes "until") ∷ [])
     ∷ command_with (codes "audit")
-    (several_option (codes "db") ∷ flag (codes "seal") ∷ optional_option (codes "against") ∷ [])
+    (several_option (codes "db") ∷ flag (codes "seal") ∷ optional_option (codes "against")
+    ∷ optional_option (codes "format") ∷ [])
     ∷ command_with (codes "stand-in")
     (optional_option (codes "host") ∷ required_option (codes "port")
     ∷ required_option (codes "connections") ∷ [])

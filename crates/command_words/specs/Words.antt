@@ -42,9 +42,9 @@ HasFault (kind ∷ kinds) = IsFault kind ⊎ HasFault kinds
 abbrev pub Spells : List (Bor Text) → CommandLine → Type 0
 Spells words line = (errors_of (texts words) ≡ []) × (Some (seen line) ≡ line_of (texts words))
 
--- States which faults the program may report for the arguments. `Wrong` is allowed only for a real
--- error of `clap` or an invalid option value. `Help` and `Version` are allowed only if the user
--- requested them.
+-- States which faults the program may report for the arguments. `Wrong` (invalid arguments) is
+-- allowed only for a real error of `clap` or an invalid option value. `Help` and `Version` are
+-- allowed only if the user requested them.
 abbrev pub IsFaultOf : List (Bor Text) → WordsFault → Type 0
 IsFaultOf words (Wrong text) =
     HasFault (errors_of (texts words))

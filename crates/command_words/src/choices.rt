@@ -1,12 +1,12 @@
 //! Parses option values that must be one of a few fixed words.
 ghost use Rattle.std.specs.Prelude.{codes};
 ghost use Rattle.energy_report.specs.Words.{format_of, period_of, unit_of};
-ghost use Rattle.command_words.specs.Lines.{carried_by};
+ghost use Rattle.command_words.specs.Lines.{carried_by, is_json_in};
 ghost use Rattle.command_words.specs.Options.{Reads, if_some, rows_in, text_at};
 
 use crate::faults::ValueFault;
 use crate::options::text_if;
-use crate::table::{CARRIES, FORMATS, PERIODS, UNITS};
+use crate::table::{AUDIT_FORMATS, CARRIES, FORMATS, PERIODS, UNITS};
 use clap::ArgMatches;
 use energy_report::{EnergyUnit, Format, Period};
 
@@ -80,6 +80,27 @@ pub fn format_if<'a>(found: &ArgMatches<'a>) -> Result<Option<Format>, ValueFaul
             option: "format",
             value: "FORMAT",
             choices: FORMATS,
+            word,
+        }),
+    }
+}
+
+/// Parses the option `--format` of `audit`, and returns whether the format is JSON. Without the
+/// option, the format is text.
+pub fn is_json<'a>(found: &ArgMatches<'a>) -> Result<bool, ValueFault<'a>>
+    ensures { Reads (λ is_json. is_json) (is_json_in (rows_in found.now)) result }
+{
+    let given = text_if(found, "format");
+    let Some(word) = given else {
+        return Ok(false);
+    };
+    match word {
+        "text" => Ok(false),
+        "json" => Ok(true),
+        _ => Err(ValueFault::Choice {
+            option: "format",
+            value: "FORMAT",
+            choices: AUDIT_FORMATS,
             word,
         }),
     }

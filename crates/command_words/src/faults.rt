@@ -83,7 +83,8 @@ fn write_words<W: fmt::Write>(f: &mut Formatter<W>, words: &[&str]) -> fmt::Resu
     Ok(())
 }
 
-// Error messages for invalid option values. They have the form of `clap`'s own messages.
+// Error messages for invalid option values, in the format of the messages that `clap` itself
+// prints.
 impl<'a> Display for ValueFault<'a> {
     fn fmt<W: fmt::Write>(&self, f: &mut Formatter<W>) -> fmt::Result {
         match self {

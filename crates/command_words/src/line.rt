@@ -16,11 +16,14 @@ pub struct FormWords<'a> {
     pub statement: bool,
 }
 
-/// What an audit of a database file does with a seal, a stored digest of the file's past.
+/// What an audit of a database file prints, and what it does with a seal, a stored digest of the
+/// file's past.
 #[derive(Clone, Copy, Debug)]
 pub enum Sealing<'a> {
-    /// The audit uses no seal (a digest of a file's past).
+    /// The audit prints lines of text, and uses no seal (a digest of a file's past).
     Nothing,
+    /// The audit prints JSON, one object a line, and uses no seal (a digest of a file's past).
+    Json,
     /// The audit prints a seal (a digest of the file's past) for the audited file.
     Print,
     /// The audit compares the file with the seal (a digest of the file's past) that is stored at
@@ -78,8 +81,8 @@ pub enum CommandLine<'a> {
         port: u16,
     },
     /// Reports the energy of an accounting register (a named counter of a device) by days or
-    /// another period. With the option `--statement`, prints a statement of the register's meters
-    /// instead.
+    /// another period. With the option `--statement`, prints a statement (billing report) of the
+    /// register's meters instead.
     Report {
         db: &'a str,
         register: &'a str,
@@ -112,7 +115,7 @@ pub enum CommandLine<'a> {
     },
     /// Audits the rows of a database file. If requested, also prints a seal (a digest of the file's
     /// past), or compares the file with a seal. For several files, the oldest first, also checks
-    /// that each file continues the previous file. A seal requires a single file.
+    /// that each file continues the previous file. A seal or JSON requires a single file.
     Audit {
         dbs: Vec<&'a str>,
         seal: Sealing<'a>,
@@ -147,14 +150,15 @@ pub enum CommandLine<'a> {
         every: u32,
         devices: Vec<Device<'a>>,
         lasts: Option<u32>,
-        /// The period after which the command begins a new file.
+        /// The period after which the command `run` begins a new database file.
         carry: Option<Period>,
-        /// The number of earlier files whose energy the command also reports. This option is not
-        /// allowed with several files, because the command then reports the energy of all these
-        /// files.
+        /// The number of earlier database files whose energy the command `run` also reports. This
+        /// option is not allowed with several files, because the command then reports the energy of
+        /// all these files.
         earlier: Option<u32>,
         host_names: Vec<&'a str>,
-        /// The maximum size of the stored accepted requests, in megabytes.
+        /// The maximum size of the kept requests (accepted requests stored with their responses, so
+        /// that a retry changes nothing), in megabytes.
         most_kept: Option<u32>,
         verbose: bool,
     },

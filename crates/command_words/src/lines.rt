@@ -1,15 +1,16 @@
 //! Converts the option values that `clap` parsed to a command line.
-ghost use Rattle.std.specs.Prelude.{◌≡◌, is_some};
+ghost use Rattle.std.specs.Prelude.{◌≡◌, codes, is_some};
 ghost use Rattle.clap.specs.Words.{subcommand_rows_of};
 ghost use Rattle.command_words.specs.ClapTable.Table.{texts};
 ghost use Rattle.command_words.specs.Values.Devices.{devices_in, places_of};
-ghost use Rattle.command_words.specs.Lines.{asks_seal, audit_in, backup_in, carry_in, command_in, completions_in, create_in};
+ghost use Rattle.command_words.specs.Lines.{audit_in, backup_in, carry_in, command_in, completions_in, create_in};
 ghost use Rattle.command_words.specs.Lines.{devices_at, devices_if, earlier_in};
 ghost use Rattle.command_words.specs.Lines.{enter_in, explain_in, form_in, line_in, one_sealed, recover_in, replay_in, report_in, round_in, run_in, scan_in, seen};
+ghost use Rattle.command_words.specs.Lines.{needs_one_file, printed_as, sealing_of};
 ghost use Rattle.command_words.specs.Lines.{sealing_in, seen_form, seen_sealing, serve_in, stand_in_in};
-ghost use Rattle.command_words.specs.Options.{Reads, rows_in};
+ghost use Rattle.command_words.specs.Options.{Reads, is_set, rows_in, text_at};
 
-use crate::choices::{carry_if, format_if, period_if, unit_if};
+use crate::choices::{carry_if, format_if, is_json, period_if, unit_if};
 use crate::faults::ValueFault;
 use crate::line::{CommandLine, FormWords, Sealing};
 use crate::options::{
@@ -150,8 +151,9 @@ fn carry_line<'a>(found: &ArgMatches<'a>) -> Result<CommandLine<'a>, ValueFault<
 
 // Parses the options `--seal` and `--against` of `audit`, which print a seal (a digest of a file's
 // past) or compare the file with a seal.
-fn sealing<'a>(found: &ArgMatches<'a>) -> Result<Sealing<'a>, ValueFault<'a>>
-    ensures { Reads seen_sealing (sealing_in (rows_in found.now)) result }
+fn own_sealing<'a>(found: &ArgMatches<'a>) -> Result<Sealing<'a>, ValueFault<'a>>
+    ensures { let rows = rows_in found.now in Reads seen_sealing
+        (sealing_of (is_set (codes "seal") rows) (text_at (codes "against") rows)) result }
 {
     let prints = is_set(found, "seal");
     let Some(seal) = text_if(found, "against") else {
@@ -170,24 +172,52 @@ fn sealing<'a>(found: &ArgMatches<'a>) -> Result<Sealing<'a>, ValueFault<'a>>
     Ok(Sealing::Against(seal))
 }
 
-// Returns the name of the option that requests a seal (a digest of a file's past), `--seal` or
-// `--against`. None if the user requested no seal. Error messages name this option.
-fn seal_option(seal: Sealing<'_>) -> Option<&'static str>
-    ensures { is_some result ≡ asks_seal (seen_sealing seal.entry) }
+// Returns the name of the option that requires a single file: `--format` for JSON, or `--seal` or
+// `--against` for a seal (a digest of a file's past). None if no option does. Error messages name
+// this option.
+fn single_option(seal: Sealing<'_>) -> Option<&'static str>
+    ensures { is_some result ≡ needs_one_file (seen_sealing seal.entry) }
 {
     match seal {
         Sealing::Nothing => None,
+        Sealing::Json => Some("format"),
         Sealing::Print => Some("seal"),
         Sealing::Against(_) => Some("against"),
     }
 }
 
-// Returns the command `audit` for the given files. Fails if a seal (a digest of a file's past) is
-// requested for several files.
+// Returns what an audit prints and does with a seal (a digest of a file's past), if its format is
+// JSON or not. Fails if JSON is requested together with a seal.
+fn printed_as<'a>(json: bool, seal: Sealing<'a>) -> Result<Sealing<'a>, ValueFault<'a>>
+    ensures { Reads seen_sealing (printed_as json (seen_sealing seal.entry)) result }
+{
+    if !json {
+        return Ok(seal);
+    }
+    match single_option(seal) {
+        None => Ok(Sealing::Json),
+        Some(other) => Err(ValueFault::Both {
+            one: "format",
+            other,
+        }),
+    }
+}
+
+// Parses the options `--format`, `--seal` and `--against` of `audit`.
+fn sealing<'a>(found: &ArgMatches<'a>) -> Result<Sealing<'a>, ValueFault<'a>>
+    ensures { Reads seen_sealing (sealing_in (rows_in found.now)) result }
+{
+    let json = is_json(found)?;
+    let seal = own_sealing(found)?;
+    printed_as(json, seal)
+}
+
+// Returns the command `audit` for the given files. Fails if several files are given for JSON or a
+// seal (a digest of a file's past).
 fn audit_of<'a>(dbs: Vec<&'a str>, seal: Sealing<'a>) -> Result<CommandLine<'a>, ValueFault<'a>>
     ensures { Reads seen (one_sealed (texts dbs.entry.items) (seen_sealing seal.entry)) result }
 {
-    let Some(option) = seal_option(seal) else {
+    let Some(option) = single_option(seal) else {
         return Ok(CommandLine::Audit { dbs, seal });
     };
     if dbs.len() > 1 {

@@ -15,10 +15,10 @@ pub struct NumberOption<'a> {
     pub most: u32,
 }
 
-/// The default time zone.
+/// The default time zone of the commands, if the option `--zone` is not given.
 pub const ZONE: &str = "UTC0";
 
-/// The default host.
+/// The default host of the commands, if the option `--host` is not given.
 pub const HOST: &str = "127.0.0.1";
 
 /// The option for a further name that an HTTP request's Host header may have.
@@ -93,6 +93,8 @@ pub const UNITS: &[&str] = &["mwh", "kwh"];
 pub const CARRIES: &[&str] = &["month", "year"];
 
 pub const FORMATS: &[&str] = &["text", "csv", "json"];
+
+pub const AUDIT_FORMATS: &[&str] = &["text", "json"];
 
 /// The default Modbus unit identifier.
 pub const FIRST_UNIT: u32 = 1;
@@ -382,6 +384,14 @@ const AUDIT: CommandText<'static> = CommandText {
             name: "against",
             value: Value::Optional("SEAL"),
             help: "Also checks that all records of this seal file are unchanged",
+        },
+        OptionText {
+            name: "format",
+            value: Value::Chosen {
+                shown: "FORMAT",
+                choices: AUDIT_FORMATS,
+            },
+            help: "Output format: text or json; default text",
         },
     ],
 };

@@ -65,14 +65,15 @@ static AREAS: [Area; 4] = [
     },
 ];
 
-// The addresses of the coils that are on, followed by those of the discrete inputs that are on.
+// The addresses of the coils that are on in the simulated device of the Modbus standard's examples,
+// followed by those of the discrete inputs that are on.
 static COILS: [u16; 12] = [19, 21, 22, 25, 26, 27, 28, 30, 32, 33, 35, 37];
 
 static DISCRETES: [u16; 14] = [
     198, 199, 201, 203, 204, 205, 207, 208, 210, 211, 212, 214, 216, 217,
 ];
 
-// Returns a device with the values that the standard's examples read.
+// Returns a simulated device with the values that the Modbus standard's examples read.
 fn bank_of_examples(rt: &impl Abort, alloc: Global) -> Bank {
     let mut bank = Bank::new(alloc, &AREAS).ok().expect(rt, "no bank");
     for address in COILS {
@@ -87,7 +88,7 @@ fn bank_of_examples(rt: &impl Abort, alloc: Global) -> Bank {
     bank
 }
 
-// Reads that return the values written by the standard's examples of writes.
+// Reads that return the values written by the Modbus standard's examples of writes.
 static READ_BACK: [Exchange; 2] = [
     Exchange {
         request: &[3, 0, 1, 0, 2],
@@ -99,7 +100,8 @@ static READ_BACK: [Exchange; 2] = [
     },
 ];
 
-/// A device responds to the standard's example requests with the standard's example responses.
+/// A simulated device responds to the Modbus standard's example requests with the standard's
+/// example responses.
 #[test]
 fn examples_of_the_standard_are_answered(rt: HostRuntime) {
     let mut bank = bank_of_examples(&rt, rt.alloc());

@@ -1,11 +1,12 @@
-//! Tests events whose time is earlier than the time of the previous event.
+//! Tests that a polling session refuses events whose time is earlier than that of the previous
+//! event, and that it still works afterwards.
 use crate::first_poll::first_poll;
 use crate::session_script::{Event, GOOD, Line, play};
 use poll_core::{ClockBack, Closing, Outcome, StartFault};
 
-/// The events of a polling session that has refused an event with an earlier time than the previous
-/// event. The session also refuses to start a poll at such a time. The response still completes the
-/// first poll.
+/// The events that follow in a polling session after it refused an event with an earlier time than
+/// the previous event. The session also refuses to start a poll at such a time. The response to the
+/// first poll still completes this poll.
 static AFTERWARDS: [Line; 2] = [
     Line {
         event: Event::Refused {

@@ -37,7 +37,8 @@ const LINES: [Line; 7] = [
     },
 ];
 
-// A SunSpec model 1 at address 2 whose points are all absent.
+// A SunSpec model 1 at address 2 whose points all have SunSpec's values for points that are not
+// implemented.
 const ABSENT: [Line; 3] = [
     Line {
         address: 0,
@@ -53,7 +54,8 @@ const ABSENT: [Line; 3] = [
     },
 ];
 
-// Returns the memory image of a device whose last SunSpec model is a model 1 of this length.
+// Returns the memory image of a device whose last SunSpec model is a model 1 of the length
+// `length`, in registers.
 fn device(rt: &impl Abort, alloc: Global, lines: &[Line], length: u16) -> Image {
     let mut image = image_of(rt, alloc, lines);
     write_image(rt, &mut image, 3, &[length]);
@@ -99,8 +101,9 @@ static SAYINGS: [(&[Line], u16, &str); 4] = [
     (&ABSENT, 65, "0 /0 /0 /0 /0 /none"),
 ];
 
-// The identity of a device has each text and the device address. A missing or absent field is
-// empty.
+// The identity that is read from a device's model 1 (common) has each of the model's texts and the
+// device address. A field is empty if it lies beyond the model's end, or if the device does not
+// implement it (its registers have SunSpec's value for that).
 #[test]
 fn identity_has_each_field(rt: HostRuntime) {
     for (lines, length, want) in &SAYINGS {

@@ -56,8 +56,8 @@ impl io::Write for Narrow {
     }
 }
 
-// Returns whether the writer received the first `room` bytes of the text, and the result is the
-// expected error if the text is longer.
+// Returns whether a writer with room for `room` bytes received the first `room` bytes of a text. If
+// the text is longer, the result of writing it must also be the expected error.
 fn is_cut(output: &Narrow, outcome: io::Result<()>, room: usize, text: &str) -> bool {
     let all = text.as_bytes();
     let reported = match outcome {
@@ -101,7 +101,7 @@ static POINTS: [(Point<'static>, &str); 6] = [
 ];
 
 // Returns whether a writer with room for `room` bytes received the first `room` bytes of a point's
-// text, and the result is the expected one.
+// text, and the result is the expected one: success, or the error of the full writer.
 fn cut_point(
     rt: &impl Abort,
     alloc: Global,
@@ -116,7 +116,8 @@ fn cut_point(
     is_cut(&output, outcome, room, text)
 }
 
-// A point of each kind is written until the writer is full, and then the error is returned.
+// Test: a SunSpec point of each type is written as text to a writer with too little room. The
+// writer gets the first bytes of the text, and the call returns the writer's error.
 #[test]
 fn a_point_is_cut(rt: HostRuntime) {
     for (point, text) in &POINTS {

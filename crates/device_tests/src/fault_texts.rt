@@ -254,7 +254,8 @@ const FAULTY: [FaultyRow; 2] = [
     },
 ];
 
-// Returns the fault of a point list with the first `count` of the example faulty rows.
+// Returns the fault of a point list that lists the first `count` rows of `FAULTY`, the faulty rows
+// that this test uses.
 fn faulty(rt: &impl Abort, alloc: Global, count: usize) -> FaultyRows {
     let mut rows = Vec::new(alloc);
     for row in FAULTY.iter().take(count) {
@@ -284,7 +285,8 @@ fn list_fault_shows_its_first_row(rt: HostRuntime) {
     assert_texts(&rt, rt.alloc(), &lists)
 }
 
-// Faults that no golden test covers have their expected numeric codes.
+// The faults of device images, model chains and point lists that no test of a golden (expected)
+// output covers have their expected numeric codes.
 #[test]
 fn faults_have_numbers(rt: HostRuntime) {
     assert!(rt; ImageFault::PastEnd.number() == 1);

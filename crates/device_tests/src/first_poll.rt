@@ -33,7 +33,8 @@ static REPLIES: [[Line; 2]; 4] = [
             },
             reported: &[(1, Outcome::Answered)],
         },
-        // A second response with the same transaction identifier belongs to no pending poll.
+        // A second response with the transaction identifier of the first response belongs to no
+        // pending poll.
         Line {
             event: Event::Piece {
                 moment: 104,
@@ -76,8 +77,8 @@ static REPLIES: [[Line; 2]; 4] = [
             reported: &[],
         },
     ],
-    // A response with the transaction identifier 9, which belongs to no poll. The first poll is
-    // still pending after it.
+    // A response with the transaction identifier 9, which none of the session's polls has. The
+    // first poll is still without an outcome after this response.
     [
         Line {
             event: Event::Piece {
@@ -150,8 +151,8 @@ pub fn play_at_windows(rt: &impl Abort, alloc: Global, lines: &[Line]) {
     }
 }
 
-/// Feeds the response to the session byte by byte, and asserts that only the last byte completes
-/// the poll.
+/// Feeds the response to the first poll to the polling session byte by byte, and asserts that only
+/// the last byte completes the poll.
 fn feed_bytes(rt: &impl Abort, alloc: Global, session: &mut Session) {
     for (i, byte) in GOOD.iter().enumerate() {
         let reported = feed(rt, alloc, session, 104, &[*byte]);
@@ -198,8 +199,8 @@ fn words_are_lent(rt: HostRuntime) {
     }
 }
 
-/// After the session's function `next` has returned a completed poll, `settling` is true: the
-/// caller must call `next` again for further outcomes.
+/// After the polling session's function `next` has returned a completed poll, `settling` is true:
+/// the caller must call `next` again for further outcomes.
 #[test]
 fn a_reported_call_is_under_way(rt: HostRuntime) {
     let mut session = first_poll(&rt, 5, 2);

@@ -52,7 +52,7 @@ static FEEDS: [Feed; 6] = [
         what: Framing::Foreign,
         buffered: false,
     },
-    // A length field of 1, after which the reader consumes no further bytes.
+    // A length field of 1, after which the frame reader consumes no further bytes.
     Feed {
         anew: true,
         bytes: &[0, 1, 0, 0, 0, 1, 9],
@@ -141,7 +141,8 @@ fn the_longest_frame_is_read(rt: HostRuntime) {
     assert!(rt; holds(&reader, 5, 0, &longest[7..]));
 }
 
-// Returns whether the bytes are accepted as a response to the request.
+// Returns whether the bytes are accepted as a response to the example request, a read of three
+// registers of unit 17.
 fn is_taken(bytes: &[u8; 15]) -> bool {
     let mut reader = FrameReader::new();
     let fed = reader.feed(bytes);
@@ -156,7 +157,8 @@ fn is_taken(bytes: &[u8; 15]) -> bool {
     }
 }
 
-/// A frame with a wrong byte in its header is not accepted as a response to the request.
+/// A frame with a wrong byte in its header is not accepted as a response to the example request, a
+/// read of three registers of unit 17.
 #[test]
 fn a_corrupt_header_is_no_reply(rt: HostRuntime) {
     assert!(rt; is_taken(&REPLY));

@@ -1,4 +1,4 @@
-//! Memory images of devices, texts and point lists that several tests use.
+//! Test data that several tests use: memory images of devices, texts, and point lists.
 
 use point_list::{PointList, PointName, read_list, write_list};
 use std::alloc::Global;

@@ -36,7 +36,7 @@ static BUSY: [Line; 4] = [
 ];
 
 /// Starts a poll with this number, which is also its transaction identifier, and feeds its response
-/// to the session.
+/// to the polling session.
 fn ask(rt: &impl Abort, alloc: Global, session: &mut Session, poll: u16) {
     let [high, low] = poll.to_be_bytes();
     let asked = Asked {

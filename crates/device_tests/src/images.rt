@@ -5,9 +5,9 @@ use std::alloc::Global;
 use std::process::Abort;
 use sun_chain::{Image, ImageFault};
 
-// The SunSpec mark, complete models 1, 103 and 203, and the end model. Each register of model 1
-// contains two ASCII digits, its offset in the model. Each other register except scale points
-// contains its offset as a number. The golden test `full_models` uses the same registers.
+// The SunSpec mark (`SunS`), complete models 1, 103 and 203, and the end model. Each register of
+// model 1 contains two ASCII digits, its offset in the model. Each other register except scale
+// points contains its offset as a number. The golden test `full_models` uses the same registers.
 static LINES: [Line; 5] = [
     Line {
         address: 40000,

@@ -6,7 +6,8 @@ use mb_wire::{Fed, FrameReader, Framing, MemoryLink, write_frame};
 use std::alloc::Global;
 use std::process::Abort;
 
-// A length field, the number of bytes that the frame reader consumes, and the result of the feed.
+// A length field, the number of bytes that the frame reader consumes of a frame with this field,
+// and the result of feeding the frame.
 static LENGTHS: [(u16, usize, Framing); 7] = [
     (0, 6, Framing::Garbled),
     (1, 6, Framing::Garbled),
@@ -25,7 +26,7 @@ fn frame_of(length: u16) -> [u8; 261] {
     frame
 }
 
-/// A frame reader accepts length fields from 2 to 254.
+/// A reader of Modbus TCP frames accepts length fields from 2 to 254.
 #[test]
 fn frames_have_lawful_lengths(rt: HostRuntime) {
     for (length, taken, what) in LENGTHS {
@@ -35,7 +36,7 @@ fn frames_have_lawful_lengths(rt: HostRuntime) {
 }
 
 // A length field, the result of a simulated device that reads one frame with this length field, and
-// the bytes that it writes.
+// the bytes that the device writes.
 static SERVED: [(u16, Result<u64, ServeFault>, &[u8]); 4] = [
     (1, Err(ServeFault::Garbled), &[]),
     (2, Ok(1), &[0, 9, 0, 0, 0, 3, 7, 0xAB, 1]),

@@ -7,7 +7,8 @@ use mb_wire::{Request, decode_reply, decode_request};
 // A request PDU: its function code, the number after its address, its byte count, and its length in
 // bytes. The last number is the numeric code of the PDU's fault, or 0 if the PDU is valid.
 static REQUESTS: [(u8, u16, u8, usize, u8); 36] = [
-    // Requests that read coils and discrete inputs.
+    // Test cases: requests that read coils and discrete inputs, with quantities within the limits
+    // and beyond them.
     (1, 0, 0, 5, 3),
     (1, 1, 0, 5, 0),
     (1, 2000, 0, 5, 0),
@@ -18,7 +19,7 @@ static REQUESTS: [(u8, u16, u8, usize, u8); 36] = [
     (2, 2000, 0, 5, 0),
     (2, 2001, 0, 5, 3),
     (2, 65535, 0, 5, 3),
-    // Requests that read registers.
+    // Test cases: requests that read registers, with quantities within the limits and beyond them.
     (3, 0, 0, 5, 3),
     (3, 1, 0, 5, 0),
     (3, 125, 0, 5, 0),
@@ -29,20 +30,22 @@ static REQUESTS: [(u8, u16, u8, usize, u8); 36] = [
     (4, 125, 0, 5, 0),
     (4, 126, 0, 5, 3),
     (4, 65535, 0, 5, 3),
-    // Requests that write one coil with a valid or an invalid value, or one register.
+    // Test cases: requests that write one coil with a valid or an invalid value, or one register.
     (5, 0x0000, 0, 5, 0),
     (5, 0xFF00, 0, 5, 0),
     (5, 0xFF01, 0, 5, 5),
     (5, 0x00FF, 0, 5, 5),
     (6, 0, 0, 5, 0),
     (6, 65535, 0, 5, 0),
-    // Requests that write several coils.
+    // Test cases: requests that write several coils, with quantities within the limits and beyond
+    // them.
     (15, 0, 0, 6, 3),
     (15, 8, 1, 7, 0),
     (15, 1968, 246, 252, 0),
     (15, 1968, 247, 253, 4),
     (15, 1969, 247, 253, 3),
-    // Requests that write several registers.
+    // Test cases: requests that write several registers, with quantities within the limits and
+    // beyond them.
     (16, 0, 0, 6, 3),
     (16, 1, 2, 8, 0),
     (16, 123, 246, 252, 0),
@@ -50,7 +53,7 @@ static REQUESTS: [(u8, u16, u8, usize, u8); 36] = [
     (16, 124, 248, 254, 3),
 ];
 
-/// Returns a request with the same value in each byte after the byte count.
+/// Returns a request PDU that has the value `following` in each byte after the byte count.
 pub(crate) fn request_of(
     function: u8,
     address: u16,

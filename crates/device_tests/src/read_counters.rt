@@ -146,13 +146,14 @@ fn a_counter_is_asked_for_twice(rt: HostRuntime) {
     assert!(rt; garbled == Err(ScanFault::Garbled));
 }
 
-// An exception response to the first request, followed by a response with registers to the second
-// request.
+// An exception response to the first request for a counter, followed by a response with registers
+// to the repeated request.
 static EXCEPTION_THEN_WORDS: [u8; 22] = [
     0, 1, 0, 0, 0, 3, 7, 0x84, 6, 0, 2, 0, 0, 0, 7, 7, 4, 4, 0, 1, 0, 2,
 ];
 
-// The frames of both requests, each for two input registers from address 40010 of unit 7.
+// The frames of the two requests that reading a counter sends if the response to the first is an
+// exception. Each request is for two input registers from address 40010 of unit 7.
 static REQUESTS: [u8; 24] = [
     0, 1, 0, 0, 0, 6, 7, 4, 0x9C, 0x4A, 0, 2, 0, 2, 0, 0, 0, 6, 7, 4, 0x9C, 0x4A, 0, 2,
 ];

@@ -54,7 +54,8 @@ static ECHO_FAULTS: [(&[u8], ReplyFault, u8); 2] = [
     (&[5, 0, 172, 0xFF], ReplyFault::WrongLength, 2),
 ];
 
-// Returns the fault of a PDU as a response to a request, and the fault's numeric code.
+// Decodes a PDU as the response to a request. Returns the fault that the decoder finds in the PDU,
+// and the fault's numeric code.
 fn fault_in(request: &Request<'_>, pdu: &[u8]) -> Option<(ReplyFault, u8)> {
     let fault = decode_reply(request, pdu).err()?;
     Some((fault, fault.number()))

@@ -100,7 +100,8 @@ fn write_at(rt: &impl Abort, value: i64, exponent: i16, output: &mut Vec<u8>) {
     write_scaled(value, scale, output).expect(rt, "not written");
 }
 
-// Asserts the texts of the test values at a scale factor.
+// Asserts that the test values, printed with the scale factor `exponent`, give the expected text
+// `want`.
 fn assert_scaled(rt: &impl Abort, alloc: Global, values: &[i64], exponent: i16, want: &str) {
     let mut line = Vec::new(alloc);
     for value in values {

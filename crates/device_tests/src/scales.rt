@@ -3,7 +3,8 @@
 use sun_chain::scale_name;
 use sun_points::{Scale, acc32, sunssf};
 
-// The register value of a scale point, and the expected scale factor, or `None` if it is not valid.
+// The register value of a scale point, and the expected scale factor, or `None` if the register
+// value is not a valid scale factor.
 static REGISTERS: [(u16, Option<i8>); 8] = [
     (0, Some(0)),
     (10, Some(10)),
@@ -39,8 +40,8 @@ static NAMES: [(u16, &str, Option<&str>); 8] = [
     (104, "WH", None),
 ];
 
-// For a scaled point of a known model, the name of its scale point is found. Other points have no
-// scale point.
+// Tests that `scale_name` finds the scale point of each scaled point in the program's model tables,
+// and finds none for other points.
 #[test]
 fn points_name_their_scale_points(rt: HostRuntime) {
     for (id, name, scale) in &NAMES {

@@ -24,8 +24,8 @@ static WHOLE: [Area; 1] = [Area {
     count: 230,
 }];
 
-// Returns a simulated device with complete SunSpec models. Its last register is the ID of the end
-// model.
+// Returns a simulated device with the complete SunSpec models 1, 103 and 203. Its last register is
+// the ID of the end model.
 fn full_bank(rt: &impl Abort, alloc: Global) -> Bank {
     let image = full_image(rt, alloc);
     let mut bank = Bank::new(alloc, &WHOLE).ok().expect(rt, "no bank");
@@ -35,7 +35,8 @@ fn full_bank(rt: &impl Abort, alloc: Global) -> Bank {
     bank
 }
 
-// Asserts that a memory image has exactly the registers of the complete SunSpec models.
+// Asserts that a memory image has exactly the registers of the complete SunSpec models 1, 103 and
+// 203.
 fn assert_full(rt: &impl Abort, alloc: Global, found: &Image) {
     let image = full_image(rt, alloc);
     for address in 39990..40240u16 {
@@ -63,7 +64,8 @@ fn scan_bank(alloc: Global, bank: Bank, tricks: &[(u64, Trick)]) -> Scanned {
     }
 }
 
-// Scans a simulated device that has complete SunSpec models, with injected faults.
+// Scans a simulated device that has the complete SunSpec models 1, 103 and 203, with injected
+// faults.
 fn scanned_full(
     rt: &impl Abort,
     alloc: Global,
@@ -80,9 +82,10 @@ fn assert_image(rt: &impl Abort, alloc: Global, bank: Bank, requests: u64) -> Im
     scanned.found.ok().expect(rt, "no scan")
 }
 
-// A scan reads complete SunSpec models with ten requests. One is for the mark, three are for model
-// headers, and three for the models' registers. The header of the end model is requested twice,
-// because its length register is missing, and then its ID alone.
+// A scan reads the complete SunSpec models 1, 103 and 203 with ten requests. One is for the mark
+// `SunS` of a chain, three are for model headers, and three for the models' registers. The header
+// of the end model is requested twice, because its length register is missing, and then its ID
+// alone.
 #[test]
 fn full_models_are_read(rt: HostRuntime) {
     let scanned = scan_bank(rt.alloc(), full_bank(&rt, rt.alloc()), &[]);
@@ -142,7 +145,8 @@ static UPPER: [Area; 1] = [Area {
     count: 15536,
 }];
 
-// Returns a simulated device with these registers, all at or above address 50000.
+// Returns a simulated device that stores the given holding registers (pairs of address and value).
+// Its register map covers the addresses from 50000 on.
 fn upper_bank(rt: &impl Abort, alloc: Global, words: &[(u16, u16)]) -> Bank {
     let mut bank = Bank::new(alloc, &UPPER).ok().expect(rt, "no bank");
     for (address, word) in words {
@@ -151,7 +155,8 @@ fn upper_bank(rt: &impl Abort, alloc: Global, words: &[(u16, u16)]) -> Bank {
     bank
 }
 
-// The SunSpec mark, an unknown model, and the end model at address 65535.
+// The SunSpec mark (`SunS`), a model with the ID 9, whose points the scan does not know, and the
+// end model at address 65535.
 static TO_THE_LAST: [(u16, u16); 5] = [
     (50000, 0x5375),
     (50001, 0x6E53),
@@ -160,9 +165,10 @@ static TO_THE_LAST: [(u16, u16); 5] = [
     (65535, 0xFFFF),
 ];
 
-// A chain of SunSpec models may end at address 65535. The scan sends five requests: two for the
-// mark at 40000, one for the mark at 50000, and two for model headers. It does not read the
-// registers of the unknown model.
+// Test of a chain of SunSpec models that ends at address 65535. It has one model, with an ID (9)
+// that the scan does not know. The scan sends five requests: two for the mark `SunS` of a chain at
+// 40000, one for the mark at 50000, and two for model headers. It does not read the registers of
+// model 9.
 #[test]
 fn a_chain_may_end_at_the_last_address(rt: HostRuntime) {
     let bank = upper_bank(&rt, rt.alloc(), &TO_THE_LAST);
@@ -182,8 +188,9 @@ static LONG: [(u16, u16); 6] = [
     (50130, 0xFFFF),
 ];
 
-// A long SunSpec model needs several reads. The scan sends seven requests: two for the mark at
-// 40000, one for the mark at 50000, two for model headers, and two for the model's registers.
+// A long SunSpec model needs several reads. The scan sends seven requests: two for the mark `SunS`
+// of a chain at 40000, one for the mark at 50000, two for model headers, and two for the model's
+// registers.
 #[test]
 fn a_long_model_takes_several_reads(rt: HostRuntime) {
     let image = assert_image(&rt, rt.alloc(), upper_bank(&rt, rt.alloc(), &LONG), 7);

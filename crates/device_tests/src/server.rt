@@ -34,8 +34,8 @@ const GARBLED: &[u8] = &[
     0, 7, 0, 0, 0, 6, 1, 3, 0, 0, 0, 1, 0, 8, 0, 0, 0, 1, 1, 3, 0, 0, 0, 1,
 ];
 
-// An input stream, the greatest chunk of the connection in bytes, the failing call if any, and the
-// number of turns (reads of a chunk). Then the expected results.
+// A test case: an input stream, the greatest chunk of the connection in bytes, the failing call to
+// the connection if any, and the number of turns (reads of a chunk). Then the expected results.
 struct Case {
     input: &'static [u8],
     piece: usize,
@@ -48,7 +48,8 @@ struct Case {
 }
 
 static CASES: [Case; 11] = [
-    // Servers whose number of turns (reads of a chunk) is enough for the input, or too small.
+    // Test cases in which the allowed number of turns (reads of a chunk) is enough for the input of
+    // a server, or too small.
     Case {
         input: READ,
         piece: 12,
@@ -174,8 +175,9 @@ fn is_over(server: &mut Server, link: &mut MemoryLink<'_>, bank: &mut Bank) -> b
     served == Err(ServeFault::Garbled) && (link.given().len(), link.takes()) == before
 }
 
-// Returns whether a server has the expected results. If the server returned a fault, and only then,
-// its next call must return `Garbled`.
+// Returns whether a server's result, bytes and numbers of reads and failures are those that a test
+// case expects. If the server returned a fault, and only then, its next call must return `Garbled`
+// (the fault of an invalid length field).
 fn is_served(rt: &impl Abort, alloc: Global, case: &Case) -> bool {
     let mut bank = bank_with_nine(rt, alloc);
     let mut output = [0; 40];

@@ -101,7 +101,7 @@ pub fn assert_ready(rt: &impl Abort, session: &Session, id: u16, count: usize) {
     assert!(rt; ready.id == id && ready.count == count);
 }
 
-/// Feeds received bytes to the session, and returns the polls that these bytes complete.
+/// Feeds received bytes to the polling session, and returns the polls that these bytes complete.
 pub fn feed(
     rt: &impl Abort,
     alloc: Global,

@@ -167,7 +167,7 @@ static THREE_ENDS: [Line; 7] = [
         },
         reported: &[],
     },
-    // Bytes that a session receives after an invalid length field are discarded.
+    // Bytes that a polling session receives after an invalid length field are discarded.
     Line {
         event: Event::Piece {
             moment: 1006,

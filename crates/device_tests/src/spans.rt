@@ -13,8 +13,8 @@ const LAST: ReadSpan = ReadSpan {
     count: 1,
 };
 
-// Valid ranges of registers, each with function code, address and count. The next list has invalid
-// ranges.
+// Valid ranges of registers to read by one request, each with function code, address and count. The
+// next list has invalid ranges.
 static LAWFUL: [(u8, u16, u16); 4] = [(3, 0, 125), (4, 0, 125), (3, 65411, 125), (4, 65535, 1)];
 
 static UNLAWFUL: [(u8, u16, u16); 8] = [
@@ -28,7 +28,7 @@ static UNLAWFUL: [(u8, u16, u16); 8] = [
     (4, 0, 65535),
 ];
 
-/// A range has 1 to 125 registers within the 65536 addresses of a device.
+/// A range that one request reads has 1 to 125 registers within the 65536 addresses of a device.
 #[test]
 fn spans_are_lawful(rt: HostRuntime) {
     assert!(rt; ReadSpan::new(3, 107, 3) == Some(THREE));

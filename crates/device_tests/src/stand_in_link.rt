@@ -4,7 +4,8 @@ ghost use Rattle.std.specs.Prelude.{◌≤◌, ◌<◌, length};
 use mb_device::{Bank, Server, Trick};
 use mb_wire::{LastTake, Link, LinkFailed, MemoryLink, Took};
 
-/// The greatest number of response bytes that the connection can buffer.
+/// The greatest number of response bytes that a connection to a simulated device in the same
+/// process can buffer.
 const ROOM: usize = 1024;
 
 /// A connection to a simulated device that responds to each write immediately. A read without a
@@ -14,7 +15,7 @@ pub(crate) struct SimulatorLink<'t> {
     server: Server<'t>,
     bank: Bank,
     answers: [u8; ROOM],
-    // The range of buffered response bytes that were not read yet.
+    // The range of response bytes in the connection's buffer that were not read yet.
     start: usize,
     end: usize,
     is_over: bool,
@@ -42,7 +43,7 @@ impl<'t> SimulatorLink<'t> {
         }
     }
 
-    /// Returns the number of writes to the connection, one for each request.
+    /// Returns the number of writes to a connection to a simulated device, one for each request.
     pub(crate) fn gives(&self) -> u64 {
         self.gives
     }

@@ -23,8 +23,8 @@ const HIGHEST: &[u8] = &[
 // A read of 125 registers, which has the longest response.
 const LONGEST: &[u8] = &[0, 7, 0, 0, 0, 6, 1, 3, 0, 0, 0, 125];
 
-// Injected faults, an input stream and the greatest chunk in bytes. Then the expected results:
-// frames executed, bytes written, number of reads, and the value of holding register 0.
+// A test case: injected faults, an input stream and the greatest chunk in bytes. Then the expected
+// results: frames executed, bytes written, number of reads, and the value of holding register 0.
 #[derive(Drop)]
 struct Case {
     tricks: &'static [(u64, Trick)],
@@ -36,7 +36,8 @@ struct Case {
     register: u16,
 }
 
-// Returns whether a server with injected faults has the expected results.
+// Returns whether a server with injected faults has the results that the test case expects: frames
+// executed, bytes written, reads, and the value of register 0.
 fn is_served(rt: &impl Abort, alloc: Global, case: &Case) -> bool {
     let mut bank = bank_with_nine(rt, alloc);
     let mut output = [0; 48];
@@ -248,7 +249,8 @@ fn the_longest_answer_is_cut_off(rt: HostRuntime) {
     }
 }
 
-// Returns whether a server reports the end of the input without reading or writing.
+// Returns whether a simulated Modbus server reports that the input of its connection has ended,
+// without reading or writing bytes.
 fn is_over(server: &mut Server<'_>, link: &mut MemoryLink<'_>, bank: &mut Bank) -> bool {
     let before = (link.given().len(), link.takes());
     let nothing = Turned {

@@ -81,7 +81,7 @@ static CASES: [Case; 21] = [
     case!(16, 65413, 123, 246, 252, 5, [16, 0xFF]),
     case!(16, 65414, 123, 246, 252, 2, [0x90, 2]),
     case!(16, 0, 124, 247, 253, 2, [0x90, 3]),
-    // Requests that begin at address 65535.
+    // Tests of requests that begin at address 65535, the last address of a device.
     case!(5, 65535, 0xFF00, 0, 5, 5, [5, 0xFF]),
     case!(6, 65535, 0xFFFF, 0, 5, 5, [6, 0xFF]),
     case!(3, 65535, 2, 0, 5, 2, [0x83, 2]),

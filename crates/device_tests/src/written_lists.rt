@@ -2,7 +2,8 @@
 
 use crate::given::{list_of, written};
 
-// The text from which a point list is read, and the expected text that is written for the list.
+// A test case: the CSV text from which a point list is read, and the text that the program must
+// write for this list.
 struct Rewritten {
     text: &'static [u8],
     written: &'static [u8],
@@ -26,9 +27,9 @@ wh,3,0,40094,acc32,whsf
 whsf,3,0,40096,sunssf,
 ";
 
-// Texts of point lists, with the texts that are written for them. These texts have each kind of
-// point, text from a spreadsheet program, only a header, four spellings of one list, and the limits
-// of numbers.
+// Texts of point lists in CSV, each with the text that the program writes after parsing it. They
+// have each kind of point, text from a spreadsheet program, only a header, four spellings of one
+// list, and the limits of numbers.
 static TEXTS: [Rewritten; 8] = [
     Rewritten {
         text: EVERY_KIND,

@@ -1,5 +1,5 @@
--- The rules for meter entries record each accepted reading as an entry, with the energy in the
--- verdict on the reading.
+-- Lemmas that `entered`, the check of entries, records each accepted reading as an entry, with the
+-- energy that the verdict on the reading states.
 use Rattle.std.proofs.Common.{◌==◌, ◌≢◌, nat_le, ◌≡◌, ℕ, ℤ, ◌+◌, ◌-◌, ◌*◌, ◌<◌, ◌≤◌, false, not, nat_lt, if◌then◌else◌, Option, Some, None, ap, sym, refl, ◌∙◌, arith}
 use Rattle.std.proofs.lemmas.Bool.Decides.{nat_tests, Decides-int_eq}
 use Rattle.std.specs.List.{find}

@@ -1,5 +1,6 @@
--- Lemmas on recorded meter entries. Each recorded entry may follow the entry before it, and with
--- the new entry, all entries of the meter still obey the rules (`IsAccount`).
+-- Lemmas: each entry that the check of entries records satisfies the rules for an entry after the
+-- last one (later, no lower count, within the limits). With the new entry, all entries of the meter
+-- still satisfy these rules (`IsAccount`).
 use Rattle.std.proofs.Common.{◌≡◌, ℕ, ◌+◌, ◌*◌, ◌^◌, ◌<◌, ◌≤◌, false, nat_lt, nat_le, List, [], ◌∷◌, Option, Some, None, Ok, ap, subst, refl, ◌∙◌, arith}
 use Rattle.std.proofs.lemmas.Bool.Decides.{nat_tests}
 use Rattle.std.proofs.lemmas.Int.{ints}

@@ -97,7 +97,8 @@ ranged_gap_too_long : verdict_of 1000000 (terms 100000 0) (last 0 5 (pos 0)) (re
 unfolding unit_of
 ranged_gap_too_long = refl
 
--- Examples: results of manual entries.
+-- Examples of manual meter entries, each with its result: the counter's new state and the energy,
+-- or the fault for which the entry is refused.
 
 back : entered 4294967296 200000 (last 1900 5200 (pos 0)) (entry.Step 2000 5100 0) ≡ Err fault.NegativeStep
 unfolding unit_of
@@ -147,8 +148,8 @@ steps_of_a_reset : steps_of 4294967296 (last 1000 5000 (pos 0))
 unfolding unit_of
 steps_of_a_reset = refl
 
--- Examples: both ends of each limit of ranges and scale factors, as the last allowed value and the
--- first refused value.
+-- Examples for the lower and the upper limit of a counter's range and of scale factors: the last
+-- allowed value and the first refused value.
 
 least_range : IsRange 65536
 least_range = (lit≤ tt, lit≤ tt)

@@ -1,5 +1,6 @@
--- The invariant of an installed meter's entries and total energy. Each accepted reading preserves
--- this invariant.
+-- The invariant that an installed meter's entries, with their total energy, obey the rules
+-- (`IsAccount`: each entry is later than the last one, has no lower count and is within the
+-- limits). Each accepted reading preserves this invariant.
 use Rattle.std.proofs.Common.{◌≡◌, ℕ, ◌+◌, ◌-◌, ◌*◌, ◌^◌, ◌<◌, ◌≤◌, List, [], ◌∷◌, sym, refl, ◌∙◌, arith}
 use Rattle.std.specs.List.{All, sum_by}
 use Rattle.std.proofs.lemmas.List.Elements.{All-nil, All-cons}
@@ -49,8 +50,9 @@ accounts_are_sound range opening es last total below scale h =
       steps = shareable range opening es h.follow (omega (arith, h.within));
     }
 
--- True if a meter's entries obey the rules (`IsAccount`), with the counter's state and the total
--- energy that follow from the entries.
+-- True if a meter's entries obey the rules (`IsAccount`: each is later than the last one, has no
+-- lower count and is within the limits). The counter's state and the total energy follow from the
+-- entries.
 abbrev HasAccount : ℕ → Last → List Entry → Type 0
 HasAccount range opening es = IsAccount range opening es (last_of opening es) (whole_energy range opening es)
 

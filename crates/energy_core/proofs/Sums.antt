@@ -26,8 +26,8 @@ pub sum-step : (range : ℕ) (opening : Last) (e : Entry) (es : List Entry)
 sum-step range opening e es = sum_by-cons (λ (s : Step). s.mwh) (step_to range (last_of opening es) e) (steps_of range opening es)
 
 -- If no entry's count is less than the count before it, two sums are equal. The first adds the
--- energies between entries, the opening value, and the values that resets set. The second adds the
--- last value, all full turns, and the values before resets.
+-- energies between entries, the value at the opening (first entry), and the values that resets set.
+-- The second adds the last value, all full turns, and the values before resets.
 pub balance : StepsAddUp
 balance range opening [] h = omega arith
 balance range opening (entry.Step at raw rolls ∷ es) h =

@@ -1,5 +1,5 @@
--- All readings of an honest meter that is polled often enough are accepted, and their recorded
--- energy is the true energy.
+-- If a meter shows its true counts and is polled often enough, then all its readings are accepted,
+-- and their recorded energy is the true energy.
 use Rattle.std.proofs.Common.{◌≡◌, ◌≢◌, ℕ, ℤ, ◌+◌, ◌-◌, ◌*◌, ◌%◌, ◌<◌, ◌≤◌, true, false, not, List, [], ◌∷◌, map, IsTrue, nat_le, nat_lt, if◌then◌else◌, refl, ap, sym, ◌∙◌, arith}
 use Rattle.std.proofs.Math.Nat.{mod-lt, mul-le-mul_right, add-mul}
 use Rattle.std.proofs.lemmas.Bool.{cases_lt}
@@ -65,8 +65,10 @@ not_beyond_range range count pos = let below : count % range < range = mod-lt co
 abbrev terms_after : (ceiling : ℕ) → ℤ → Item → Item → Terms
 terms_after ceiling sf first a = record { ceiling = ceiling; total = advance sf first a }
 
--- Suppose that a reading shows the true count, and none of the causes to reject it applies. Then it
--- is accepted with the true energy. The causes `TooFast` and `NotBelowRange` need not be checked.
+-- Suppose that a reading shows the true count of a meter whose power stayed within its ceiling.
+-- Suppose also that no cause of rejection applies, apart from `TooFast` (above the ceiling) and
+-- `NotBelowRange` (count out of range). Then these two don't apply either, and the reading is
+-- accepted with the true energy.
 one_reading : (range ceiling : ℕ) (sf : ℤ) (first a b : Item) → 0 < range → a.count ≤ b.count
     → IsTrue (can_count ceiling (unit_of sf) (b.at - a.at) (b.count - a.count))
     → ((c : Cause) → c ≢ cause.TooFast → c ≢ cause.NotBelowRange
@@ -97,8 +99,8 @@ one_reading range ceiling sf first a b pos on slow others =
       far,
     )
 
--- The loop invariant for a list of a meter's true counts: the recorded entries match the true
--- counts and the true energy.
+-- The invariant of reading a meter at its true counts, one by one: the recorded entries match the
+-- true counts and the true energy.
 record Booked (range ceiling : ℕ) (sf : ℤ) (first : Item) (items : List Item) (es : List Entry) : Type 0 where
   last : last_of (shown range sf first) es ≡ shown range sf (newest first items)
   on : first.count ≤ (newest first items).count

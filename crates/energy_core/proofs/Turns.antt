@@ -1,4 +1,5 @@
--- The number of counts that a counter advanced, if it made less than a full turn.
+-- If a counter advanced by `d` counts, less than a full turn of `range` counts, then `d` is the
+-- difference of the counts that it showed, modulo `range`.
 use Rattle.std.proofs.Common.{◌≡◌, ℕ, ◌+◌, ◌-◌, ◌*◌, ◌%◌, ◌<◌, ◌≤◌, true, false, nat_lt, if◌then◌else◌, ap, ◌∙◌, ◌⊎◌, inl, inr, arith}
 use Rattle.std.proofs.Math.Nat.{mod-lt, mod-eq_of_lt, mod-eq-sub-mod, mod-add-mod, add-mod_right}
 use Rattle.std.proofs.lemmas.Bool.{cases_lt}
@@ -22,8 +23,8 @@ wrapped range r d less small =
           inr (omega arith)
     ]
 
--- The distance between two shown numbers is the true advance of the counter, if the advance is less
--- than a full turn.
+-- The distance between two numbers that a counter shows is the true advance of the counter, if the
+-- advance is less than a full turn.
 pub distance-shown : (range a d : ℕ) → 0 < range → d < range → distance range (a % range) ((a + d) % range) ≡ d
 distance-shown range a d pos less =
     rw (← mod-add-mod a range d) (went_from range (a % range) d ((a % range + d) % range) less (mod-lt a pos) (wrapped range (a % range) d less (mod-lt a pos)))

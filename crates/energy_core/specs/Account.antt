@@ -42,7 +42,8 @@ reached range (entry.Change at before new sf) = before
 abbrev pub energy_of : (range : ℕ) → Last → Entry → ℕ
 energy_of range last e = reached range e * unit_of last.sf - value_of last
 
--- The step from the counter's state `last` to an entry: both times, and the energy in mWh.
+-- The step from the counter's state `last` to an entry: the times of `last` and of the entry, and
+-- the energy in mWh between them.
 abbrev pub step_to : (range : ℕ) → Last → Entry → Step
 step_to range last e = record { from = last.at; till = moment_of e; mwh = energy_of range last e }
 
@@ -96,9 +97,9 @@ abbrev pub CanBeShown : (range : ℕ) → Entry → Type 0
 CanBeShown range (entry.Step at raw rolls) = raw < range
 CanBeShown range (entry.Change at before new sf) = (before < range) × (new < range)
 
--- True if an entry may follow the counter's state `last`: its count is not less, and its time is
--- later. The time between `last` and the entry, the entry's scale factor and its counts are within
--- their limits.
+-- True if an entry may follow the counter's state `last`: its count is not less than that of
+-- `last`, and its time is later. The time between `last` and the entry, the entry's scale factor
+-- and its counts are within their limits.
 pub record Follows (range : ℕ) (last : Last) (e : Entry) : Type 0 where
   pub rises : last.raw ≤ reached range e
   pub later : last.at < moment_of e
@@ -106,14 +107,15 @@ pub record Follows (range : ℕ) (last : Last) (e : Entry) : Type 0 where
   pub scale : HasScale e
   pub shown : CanBeShown range e
 
--- True if each entry may follow the counter's state after the entries before it.
+-- True if each entry may follow the counter's state after the entries before it (`Follows`: later,
+-- no lower count, within the limits).
 abbrev pub AllFollow : (range : ℕ) → Last → List Entry → Type 0
 AllFollow range opening [] = Unit {0}
 AllFollow range opening (e ∷ es) = Follows range (last_of opening es) e × AllFollow range opening es
 
--- States that each entry may follow the entries before it. `last` is the counter's state after the
--- opening (the first entry) and the entries `es`. `total` is the meter's total energy in mWh, and
--- is within its limit.
+-- States that each entry may follow the entries before it (`Follows`: later, no lower count, within
+-- the limits). `last` is the counter's state after the opening (the first entry) and the entries
+-- `es`. `total` is the meter's total energy in mWh, and is within its limit.
 pub record IsAccount (range : ℕ) (opening : Last) (es : List Entry) (last : Last) (total : ℕ) : Type
     0 where
   pub last_is : last ≡ last_of opening es

@@ -29,17 +29,19 @@ abbrev pub is_beyond : (range : ℕ) → Entry → Bool
 is_beyond range (entry.Step at raw rolls) = nat_le range raw
 is_beyond range (entry.Change at before new sf) = nat_le range before || nat_le range new
 
--- True if the fault applies to a meter's entry after the counter's state `last` and the total
--- energy `total`.
+-- True if the given fault applies to a meter's new entry, after the counter's state `last` and with
+-- the total energy `total` so far.
 abbrev pub refuses : (range total : ℕ) → Last → Entry → TermFault → Bool
--- The entry's count is less than the count at the last entry.
+-- Fault of a new meter entry: its count is less than the count at the meter's last entry.
 refuses range total last e fault.NegativeStep = nat_lt (reached range e) last.raw
--- The entry is not later than the last entry.
+-- Fault of a new meter entry: its time is not later than that of the meter's last entry.
 refuses range total last e fault.NotLater = nat_le (moment_of e) last.at
--- The time from the last entry to the entry would touch more than 3,000 quarter hours.
+-- Fault of a new meter entry: the time from the meter's last entry to it would touch more than
+-- 3,000 quarter hours.
 refuses range total last e fault.SpanTooLong =
     nat_lt MAX_INTERVALS (intervals_touched last.at (moment_of e))
--- The total energy of the installed meter would exceed its limit.
+-- Fault of a new meter entry: with it, the total energy of the installed meter would exceed its
+-- limit.
 refuses range total last e fault.TotalFull = nat_lt MAX_TOTAL (total + energy_of range last e)
 refuses range total last e fault.BadScale = has_bad_scale e
 refuses range total last e fault.NotBelowRange = is_beyond range e
@@ -61,22 +63,25 @@ answered range last e None = Ok (after last e, step_to range last e)
 abbrev pub entered : (range total : ℕ) → Last → Entry → Result (Last × Step) TermFault
 entered range total last e = answered range last e (find (refuses range total last e) faults)
 
--- States that a meter's entries obey the rules (`IsAccount`). After the entries, the pair's `Last`
--- is the counter's state, and the total energy is `total` plus the energy of the pair's `Step`.
+-- States that a meter's entries obey the rules (`IsAccount`: each is later than the last one, has
+-- no lower count and is within the limits). The pair has the counter's state after all entries, and
+-- the step (energy and times) to the latest entry. The total energy is `total` plus the energy of
+-- this step.
 abbrev pub ContinuesAccount : (range : ℕ) → Last → List Entry → (total : ℕ) → Last × Step → Type 0
 ContinuesAccount range opening es total r = IsAccount range opening es r.0 (total + r.1.mwh)
 
--- States that, if the earlier entries obey the rules (`IsAccount`) and the result records the new
--- entry, then all entries obey the rules. `total` is the total energy before the new entry.
+-- States that, if the earlier entries obey the rules (`IsAccount`: rising times, no falling counts,
+-- limits) and the result records the new entry, then all entries obey them. `total` is the total
+-- energy before the new entry.
 abbrev pub AccountsGoOnBy : (range total : ℕ) → Last → Entry → Result (Last × Step) TermFault
     → Type 0
 AccountsGoOnBy range total last e answer = (opening : Last) (es : List Entry)
     → IsAccount range opening es last total
     → IfOk answer (ContinuesAccount range opening (e ∷ es) total)
 
--- States that an entry may follow the last entry, and was recorded correctly. `next` is the
--- counter's state after the entry, and `step` the energy and times since the last entry. The total
--- energy stays within its limit.
+-- States that an entry may follow the last entry (`Follows`: later, no lower count, within the
+-- limits), and was recorded correctly. `next` is the counter's state after the entry, and `step`
+-- the energy and times since the last entry. The total energy stays within its limit.
 pub record IsBooked (range total : ℕ) (last : Last) (e : Entry) (next : Last) (step : Step) : Type 0
   where
     pub next_is : next ≡ after last e

@@ -16,9 +16,9 @@ use Rattle.energy_core.specs.Admission.{entered, IsBooked}
 use Rattle.energy_core.specs.Readings.{entries_of_readings}
 
 -- Theorem: if no entry's count is less than the count before it, two sums are equal. The first adds
--- the energies between consecutive entries, the opening value, and the values that resets and
--- rescales set. The second adds the last value, all full turns, and the values before resets and
--- rescales.
+-- the energies between consecutive entries, the value at the opening (first entry), and the values
+-- that resets and rescales set. The second adds the last value, all full turns, and the values
+-- before resets and rescales.
 abbrev pub StepsAddUp : Type 0
 StepsAddUp = (range : ℕ) (opening : Last) (es : List Entry) → NeverFalls range opening es
     → sum_by (λ (s : Step). s.mwh) (steps_of range opening es) + value_of opening + set_anew es
@@ -31,7 +31,8 @@ StepsAreTheWhole = (range : ℕ) (opening : Last) (es : List Entry) → NeverFal
     → sum_by (λ (s : Step). s.mwh) (steps_of range opening es) ≡ whole_energy range opening es
 
 -- Theorem: `entered` (the check of entries) records an entry if and only if it may follow the last
--- entry and the total stays within its limit.
+-- entry (`Follows`: later, no lower count, within the limits), and the total energy stays within
+-- its limit.
 abbrev pub EnteredIsBooked : Type 0
 EnteredIsBooked = (range total : ℕ) (last : Last) (e : Entry) (next : Last) (step : Step)
     → (entered range total last e ≡ Ok (next, step)) ↔ IsBooked range total last e next step
@@ -62,8 +63,9 @@ AcceptedIsEntered = (range : ℕ) (terms : Terms) (last : Last) (reading : Readi
 abbrev pub AccountsBegin : Type 0
 AccountsBegin = (range : ℕ) (opening : Last) → IsAccount range opening [] opening 0
 
--- Theorem: if the entries of an installed meter obey the rules (`IsAccount`), then the entries with
--- one more recorded entry obey the rules too.
+-- Theorem: suppose that the entries of an installed meter obey the rules (`IsAccount`: rising
+-- times, no falling counts, limits). Then the entries with one more recorded entry obey these rules
+-- too.
 abbrev pub AccountsGoOn : Type 0
 AccountsGoOn = (range : ℕ) (opening : Last) (es : List Entry) (last : Last) (total : ℕ)
     (e : Entry) (next : Last) (step : Step)
@@ -80,8 +82,8 @@ pub record IsShareable (step : Step) : Type 0 where
 -- States that the recorded state of an installed meter is sound. The counter's count is below its
 -- range, and its scale factor is from -3 to 3. No entry's count is less than the count before it.
 --
--- The total energy is the sum of the energies between consecutive entries, and each of these
--- energies can be divided among quarter-hour intervals.
+-- In a sound state of an installed meter (`IsSound`), the total energy is the sum of the energies
+-- between consecutive entries. Each of these energies can be divided among quarter-hour intervals.
 pub record IsSound (range : ℕ) (opening : Last) (es : List Entry) (last : Last)
     (total : ℕ) : Type 0 where
   pub raw : last.raw < range
@@ -91,16 +93,17 @@ pub record IsSound (range : ℕ) (opening : Last) (es : List Entry) (last : Last
   pub steps : All IsShareable (steps_of range opening es)
 
 -- Theorem: if a meter's entries obey the rules (`IsAccount`), the meter's state is sound
--- (`IsSound`). The opening (the first entry) must have a count below the range and a scale factor
--- from -3 to 3.
+-- (`IsSound`): within its limits, and with the sum of the entries' energies as its total. The
+-- opening (the first entry) must have a count below the counter's range and a scale factor from -3
+-- to 3.
 abbrev pub AccountsAreSound : Type 0
 AccountsAreSound = (range : ℕ) (opening : Last) (es : List Entry) (last : Last) (total : ℕ)
     → opening.raw < range → IsScale opening.sf
     → IsAccount range opening es last total → IsSound range opening es last total
 
 -- Theorem: an accepted reading becomes an entry of the meter. After any list of readings, the
--- meter's entries obey the rules (`IsAccount`). The meter's first count must be below the counter's
--- range.
+-- meter's entries obey the rules (`IsAccount`: rising times, no falling counts, limits). The
+-- meter's first count must be below the counter's range.
 abbrev pub ReadingsKeepAccounts : Type 0
 ReadingsKeepAccounts = (range ceiling : ℕ) (opening : Last) (rs : List Reading)
     → opening.raw < range

@@ -47,8 +47,8 @@ abbrev pub advance : ℤ → Item → Item → ℕ
 advance sf a b = (b.count - a.count) * unit_of sf
 
 -- True if no cause to reject a reading applies to any reading of the true counts. The causes
--- `TooFast` and `NotBelowRange` are not checked. The meter is then polled often enough, no reading
--- shows 0, and the total energy stays within its limit.
+-- `TooFast` (above the ceiling) and `NotBelowRange` (count out of range) are not checked. The meter
+-- is then polled often enough, no reading shows 0, and the total energy stays within its limit.
 abbrev pub IsReadOftenEnough : (range ceiling : ℕ) → ℤ → Item → List Item → Type 0
 IsReadOftenEnough range ceiling sf first [] = Unit {0}
 IsReadOftenEnough range ceiling sf first (b ∷ items) =
@@ -79,8 +79,8 @@ pub record IsBookedTruly (range ceiling : ℕ) (sf : ℤ) (first : Item) (items 
         (entries_of_readings range ceiling (shown range sf first) (map (reported range sf) items))
         ≡ advance sf first (newest first items)
 
--- Theorem: if a meter shows its true counts and is polled often enough, its energy is recorded
--- truly, however often the counter rolled over.
+-- Theorem: suppose that a meter shows its true counts and is polled often enough. Then its readings
+-- are accepted, and the recorded energy is the true energy, however often the counter rolled over.
 abbrev pub TruthIsBooked : Type 0
 TruthIsBooked = (range ceiling : ℕ) (sf : ℤ) (first : Item) (items : List Item) → 0 < range
     → IsTrueRun ceiling sf first items → IsReadOftenEnough range ceiling sf first items

@@ -38,25 +38,31 @@ distance range from to = (to + range - from) % range
 -- True if a cause to reject a reading applies, where `last` is the counter's state at the last
 -- entry.
 abbrev pub applies : (range : ℕ) → Terms → Last → Reading → Cause → Bool
--- The counter shows 0, which SunSpec defines as an accumulator that does not count.
+-- Cause of rejection: the counter shows 0, which SunSpec defines as the value of an accumulator
+-- that does not count.
 applies range terms last reading cause.NotAccumulated = reading.raw == 0
--- The scale factor of the reading differs from the scale factor of the last entry.
+-- Cause of rejection: the scale factor of the reading differs from the scale factor of the meter's
+-- last entry.
 applies range terms last reading cause.ScaleChanged = not (int_eq reading.sf last.sf)
--- The reading has a count that a counter of this range cannot show.
+-- Cause of rejection: the reading has a count that a counter of this range cannot show.
 applies range terms last reading cause.NotBelowRange = nat_le range reading.raw
--- The reading is not later than the last entry.
+-- Cause of rejection: the reading is not later than the meter's last entry.
 applies range terms last reading cause.NotLater = nat_le reading.at last.at
--- The time from the last entry to the reading would touch more than 3,000 quarter hours.
+-- Cause of rejection: the time from the meter's last entry to the reading would touch more than
+-- 3,000 quarter hours.
 applies range terms last reading cause.SpanTooLong =
     nat_lt MAX_INTERVALS (intervals_touched last.at reading.at)
--- The counter could have made a full turn since the last entry, so its advance is unknown.
+-- Cause of rejection: the counter could have made a full turn since the meter's last entry, so its
+-- advance is unknown.
 applies range terms last reading cause.GapTooLong =
     can_count terms.ceiling (unit_of last.sf) (reading.at - last.at) range
--- The counter advanced further than the ceiling (the meter's greatest power) allows.
+-- Cause of rejection: the counter advanced further than the ceiling (the meter's greatest power)
+-- allows.
 applies range terms last reading cause.TooFast =
     not (can_count terms.ceiling (unit_of last.sf) (reading.at - last.at)
     (distance range last.raw reading.raw))
--- The total energy of the installed meter would exceed its limit.
+-- Cause of rejection: with the reading, the total energy of the installed meter would exceed its
+-- limit.
 applies range terms last reading cause.TotalFull =
     nat_lt MAX_TOTAL (terms.total + distance range last.raw reading.raw * unit_of last.sf)
 

@@ -15,22 +15,25 @@ use crate::verdicts::Terms;
 /// The reason why a manual entry of a meter is refused.
 #[derive(Clone, Copy, Debug, PartialEq, Eq)]
 pub enum TermFault {
-    /// The entry's count is less than the count at the last entry.
+    /// Fault of a new meter entry: its count is less than the count at the meter's last entry.
     NegativeStep,
-    /// The entry is not later than the last entry.
+    /// Fault of a new meter entry: its time is not later than that of the meter's last entry.
     NotLater,
-    /// The time from the last entry to this entry would touch more than 3,000 quarter hours.
+    /// Fault of a new meter entry: the time from the meter's last entry to it would touch more than
+    /// 3,000 quarter hours.
     SpanTooLong,
-    /// The total energy of the installed meter would exceed 4 * 10^18 mWh.
+    /// Fault of a new meter entry: with it, the total energy of the installed meter would exceed
+    /// 4 * 10^18 mWh.
     TotalFull,
-    /// The entry's scale factor is not from -3 to 3.
+    /// Fault of a new meter entry: its scale factor is not from -3 to 3.
     BadScale,
-    /// A count in the entry is not below the counter's range, so the counter cannot show it.
+    /// Fault of a new meter entry: a count in it is not below the counter's range, so the counter
+    /// cannot show it.
     NotBelowRange,
 }
 
 impl TermFault {
-    /// Returns the fault's numeric code, from 1 to 6.
+    /// Returns the numeric code of a manual entry's fault, from 1 to 6.
     pub fn number(self) -> u8
         ensures { result ≡ fault_number self }
     {
@@ -134,8 +137,8 @@ pub fn enter<C: Counter>(
     ensures account { let range = C.range counter.now in
         AccountsGoOnBy range terms.now.total last.now entry.now result }
 
-    // On success, the returned state and the new total energy satisfy the preconditions of `enter`,
-    // so the next entry can be recorded.
+    // On success, the returned state and the new total energy satisfy the preconditions of the
+    // function `enter`, so it can record the next entry too.
     ensures total { IfOk result (λ r. terms.now.total + r.1.mwh ≤ MAX_TOTAL) }
     ensures raw { IfOk result (λ r. r.0.raw < C.range counter.now) }
     ensures scale_low { IfOk result (λ r. MIN_SCALE ≤ℤ r.0.sf) }

@@ -13,7 +13,8 @@ pub trait Counter {
     fn range(&self) -> u64
         ensures { result ≡ range self.now };
 
-    /// Returns the number that the counter shows at the true count `count`.
+    /// Returns the value that the counter shows after `count` counts in total: `count` modulo the
+    /// counter's range.
     fn shown(&self, count: u64) -> u32
         ensures { result ≡ count % range self.now };
 

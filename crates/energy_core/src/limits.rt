@@ -1,6 +1,7 @@
 //! The limits of a meter's counts, scale factors, power and energy.
 
-/// The least range of a counter, in counts.
+/// The smallest permitted range of a counter: the least number of values that a counter may have
+/// before it rolls over.
 pub const MIN_RANGE: u64 = 65_536;
 
 /// The greatest range of a counter, in counts: the range of a 32-bit counter.

@@ -1,4 +1,5 @@
-//! The energy of one count of a counter, and the check of the time between two entries.
+//! The energy of one count of a counter, and the check that the time between two entries touches at
+//! most 3,000 quarter hours.
 ghost use Rattle.std.specs.Prelude.{◌≡◌, ◌≤◌, ◌<◌, ◌↔◌, ◌≤ℤ◌, IsTrue};
 ghost use Rattle.energy_core.specs.Value.{unit_of};
 ghost use Rattle.energy_core.specs.Account.{intervals_touched};
@@ -25,8 +26,8 @@ pub(crate) fn unit(sf: i16) -> u64
     }
 }
 
-/// Returns whether the time from `from` to `till` touches more than `MAX_INTERVALS` quarter-hour
-/// intervals.
+/// Returns whether the time from `from` to `till` touches more than `MAX_INTERVALS` (3,000)
+/// quarter-hour intervals.
 pub(crate) fn is_long_span(from: u64, till: u64) -> bool
     requires { from < till }
     ensures { IsTrue result ↔ (MAX_INTERVALS < intervals_touched from till) }

@@ -32,21 +32,28 @@ pub struct Reading {
 /// The cause for which a reading is rejected.
 #[derive(Clone, Copy, Debug, PartialEq, Eq)]
 pub enum Cause {
-    /// The counter shows 0, which SunSpec defines as an accumulator that does not count.
+    /// Cause of rejection: the counter shows 0, which SunSpec defines as the value of an
+    /// accumulator that does not count.
     NotAccumulated,
-    /// The scale factor of the reading differs from the scale factor of the last entry.
+    /// Cause of rejection: the scale factor of the reading differs from the scale factor of the
+    /// meter's last entry.
     ScaleChanged,
-    /// The reading is not later than the last entry.
+    /// Cause of rejection: the reading is not later than the meter's last entry.
     NotLater,
-    /// The time from the last entry to the reading would touch more than 3,000 quarter hours.
+    /// Cause of rejection: the time from the meter's last entry to the reading would touch more
+    /// than 3,000 quarter hours.
     SpanTooLong,
-    /// The counter could have made a full turn since the last entry, so its advance is unknown.
+    /// Cause of rejection: the counter could have made a full turn since the meter's last entry, so
+    /// its advance is unknown.
     GapTooLong,
-    /// The counter advanced further than the ceiling (the meter's greatest power) allows.
+    /// Cause of rejection: the counter advanced further than the ceiling (the meter's greatest
+    /// power) allows.
     TooFast,
-    /// The total energy of the installed meter would exceed 4 * 10^18 mWh.
+    /// Cause of rejection: with the reading, the total energy of the installed meter would exceed
+    /// this limit:
+    /// * 4 * 10^18 mWh.
     TotalFull,
-    /// The count of the reading is not below the counter's range.
+    /// Cause of rejection: the count of the reading is not below the counter's range.
     NotBelowRange,
 }
 

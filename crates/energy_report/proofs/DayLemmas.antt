@@ -1,4 +1,5 @@
--- Lemmas about texts of civil days, and about the days that these texts represent.
+-- Lemmas: a text represents a civil day if and only if the text has the form `YYYY-MM-DD` and the
+-- calendar has this day.
 use Rattle.std.proofs.Common.{◌≡◌, ℕ, ◌+◌, ◌*◌, ◌/◌, ◌%◌, ◌≤◌, List, [], ◌∷◌, ◌++◌, length, get_or, refl, sym, ◌∙◌, ap, subst, arith}
 use Rattle.std.specs.Prelude.{ℤ, pos, negsuc, ◌≤ℤ◌, unsigned_abs, codes, Some, None}
 use Rattle.jiff.specs.Words.{date_text}

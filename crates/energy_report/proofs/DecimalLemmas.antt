@@ -1,4 +1,5 @@
--- Lemmas about the six decimals of an energy in kWh, formatted as three numbers of two digits.
+-- Lemmas: three numbers of two digits, formatted one after another, are the six decimals of an
+-- energy in kWh.
 use Rattle.std.proofs.Common.{◌≡◌, ℕ, ◌+◌, ◌/◌, ◌%◌, ◌<◌, false, cond, [], ◌∷◌, ◌++◌, refl, sym, ap, arith}
 use Rattle.std.specs.Fmt.{digit_glyph}
 use Rattle.std.proofs.lemmas.Bool.{lt-ltb}

@@ -1,5 +1,5 @@
--- Lemmas about the energy of interval rows (energies by quarter hour) that were added up one by
--- one.
+-- The lemma that adding up the energies of interval rows (quarter hours) one by one gives the
+-- energy of the rows in the range of days.
 use Rattle.std.proofs.Common.{◌≡◌, ℕ, ◌+◌, ◌-◌, ◌≤◌, ◌^◌, Bool, true, false, cond, List, [], ◌∷◌, sym, ◌∙◌, ap, subst, add_assoc, add-zero, arith}
 use Rattle.std.specs.Prelude.{filter, min}
 use Rattle.std.specs.List.{sum_by}
@@ -46,8 +46,8 @@ within zone range (row ∷ rows) from to z r fits took =
     ∙ ap (λ n. min n most) (add_assoc from.mwh (cond (has zone range row) row.mwh 0) (sum_of zone range rows)
     ∙ ap (λ n. from.mwh + n) (sym (chosen (has zone range row) row (filter (has zone range) rows))))
 
--- After `EnergyWithin` receives a list of interval rows, its sum is the energy of the rows that
--- start in its range of days (`energy_within`).
+-- After an `EnergyWithin` accumulator receives interval rows (energies of quarter hours), its sum
+-- is the energy of those rows that start in its range of days.
 pub added_up : (zone : Zone) (range : DayRange) (rows : List Share) (from to : EnergyWithin) → IsFresh zone range from
     → TakesAll AddsShare from rows to → to.mwh ≡ energy_within zone range rows
 added_up zone range rows from to fresh took =

@@ -1,4 +1,5 @@
--- Lemmas about rejected readings that were counted one by one, and about the text of their counts.
+-- Lemmas: counting rejected readings one by one gives the counts of the complete list. The texts of
+-- these counts, appended one by one, give their complete text.
 use Rattle.std.proofs.Common.{◌≡◌, ℕ, ◌+◌, ◌<◌, ◌≤◌, ◌==◌, Bool, true, false, cond, not, ◌&&◌, List, [], ◌∷◌, ◌++◌, length, take, get_or, refl, sym, ◌∙◌, ap, append-nil, append_assoc}
 use Rattle.std.specs.Prelude.{codes}
 use Rattle.std.specs.List.{filter, flat_map}
@@ -20,7 +21,8 @@ use Rattle.energy_report.specs.HeldSinks.{CountsReading, HasCountedNone}
 use Rattle.energy_report.specs.StatementTexts.{are_none, count_piece, count_text, counts_or_zero, counts_text, held_mark, held_some}
 use Rattle.energy_report.proofs.TallyLemmas.{counts}
 
--- Lemmas on the counts of the eight causes for which readings are rejected.
+-- Lemmas: counting rejected readings one by one, by the eight causes of rejection, gives the counts
+-- of the list of all these readings.
 
 abbrev eight : (a b d e f g h i : ℕ) → RejectedCounts
 eight a b d e f g h i = record {
@@ -65,8 +67,8 @@ counted_on zone range before (held ∷ holds) from to z r is took =
     counted_on zone range (before ++ held ∷ []) holds next to (took.1.zone ∙ z) (took.1.range ∙ r) here took.2
     ∙ ap (held_within zone range) (append_assoc before (held ∷ []) holds)
 
--- After `RejectedWithin` receives a list of rejected readings, its counts are those of the readings
--- whose timestamps are in its range of days (`held_within`).
+-- After the counter `RejectedWithin` receives a list of rejected readings, its counts are those of
+-- the readings whose timestamps are in its range of days (`held_within`).
 pub counted_all : (zone : Zone) (range : DayRange) (holds : List HeldReading) (from to : RejectedWithin) → HasCountedNone zone range from
     → TakesAll CountsReading from holds to → to.counts ≡ held_within zone range holds
 counted_all zone range holds from to fresh took = counted_on zone range [] holds from to fresh.zone_is fresh.range_is fresh.none took

@@ -1,4 +1,5 @@
--- Lemmas about civil days of the same period (day, month or year).
+-- Lemmas: each day between two civil days of one period (day, month or year) is in this period, and
+-- no day of the period is after its last day.
 use Rattle.std.proofs.Common.{◌≡◌, ◌⊎◌, inl, inr, ℕ, true, false, refl, sym, ◌∙◌, ap, arith}
 use Rattle.std.specs.Prelude.{ℤ, pos, ◌≤ℤ◌, ◌&&◌, ◌↔◌}
 use Rattle.std.specs.Ordering.{int_eq}

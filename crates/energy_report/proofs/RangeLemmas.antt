@@ -1,4 +1,5 @@
--- Lemmas about the energy of a range of days that is cut in two at a day.
+-- Lemmas: if a range of days is cut in two at a day, the energies of both parts add up to the
+-- energy of the range.
 use Rattle.std.proofs.Common.{◌≡◌, ℕ, ◌+◌, Bool, true, false, cond, Option, Some, None, List, [], ◌∷◌, refl, arith}
 use Rattle.std.specs.Prelude.{ℤ, ◌<ℤ◌, ◌≤ℤ◌, ◌&&◌}
 use Rattle.std.specs.Ordering.{MatchOrdering, int_cmp, is_le, is_lt}
@@ -48,16 +49,17 @@ begun (Some first) cut day by le =
     let here : epoch_day first ≤ℤ epoch_day cut = le_of (int_cmp (epoch_day first) (epoch_day cut)) (epoch_day first) (epoch_day cut) (int_ranks (epoch_day first) (epoch_day cut)) by in
     of_le (int_cmp (epoch_day first) (epoch_day day)) (epoch_day first) (epoch_day day) (int_ranks (epoch_day first) (epoch_day day)) (omega (arith, signed_arith, here, le))
 
--- If a range of days ends on or after the day of a cut, then it ends after each day that is before
--- the cut.
+-- Suppose that a range of days is cut at a day into an earlier and a later part. If the range ends
+-- on or after the day of the cut, then it ends after each day before the cut.
 open_still : (till : Option Date) (cut day : Date) → ends_before (Some cut) till ≡ false → epoch_day day <ℤ epoch_day cut → ends_after till day ≡ true
 open_still None cut day ordered lt = refl
 open_still (Some last) cut day ordered lt =
     let here : epoch_day cut ≤ℤ epoch_day last = le_of (int_cmp (epoch_day cut) (epoch_day last)) (epoch_day cut) (epoch_day last) (int_ranks (epoch_day cut) (epoch_day last)) (not-false (begins_by (Some cut) last) ordered) in
     of_lt (int_cmp (epoch_day day) (epoch_day last)) (epoch_day day) (epoch_day last) (int_ranks (epoch_day day) (epoch_day last)) (omega (arith, signed_arith, here, lt))
 
--- True if each day in a range is in exactly one of the two parts into which the range is cut, and
--- any other day is in neither.
+-- The arguments say whether a day is in each of the two parts into which a range of days is cut,
+-- and in the range. True if a day of the range is in exactly one part, and any other day in
+-- neither.
 abbrev Once : (first second whole : Bool) → Type 0
 Once first second whole = (n : ℕ) → cond first n 0 + cond second n 0 ≡ cond whole n 0
 

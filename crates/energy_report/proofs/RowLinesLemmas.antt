@@ -1,4 +1,5 @@
--- Lemmas about the text that `RowLines` (a writer of one line for each row) wrote.
+-- Lemmas: `RowLines` (a writer of one line for each row) has written the lines of all rows that it
+-- received, or a beginning of them if a write failed.
 use Rattle.std.proofs.Common.{◌≡◌, ◌+◌, ◌≤◌, ◌⊎◌, inl, inr, ℕ, zero, suc, Bool, true, false, Option, List, [], ◌∷◌, ◌++◌, length, refl, sym, ap, subst, ◌∙◌, append_assoc, arith}
 use Rattle.std.specs.List.{flat_map}
 use Rattle.std.proofs.Math.Nat.{min-eq_left, min-eq_right, min-le_right}

@@ -1,4 +1,5 @@
--- Lemmas about report rows whose counts and energies fit in their types.
+-- Lemmas: if the counts and energies of all report rows add up to values that fit in their integer
+-- types, then every row is printed with its exact values.
 use Rattle.std.proofs.Common.{◌≡◌, ◌-◌, ◌<◌, ◌≤◌, ◌^◌, List, [], ◌∷◌, map, refl, arith}
 use Rattle.std.specs.Prelude.{min}
 use Rattle.std.proofs.Math.Nat.{min-eq_left}
@@ -11,8 +12,9 @@ use Rattle.interval_core.specs.Ranges.{days_in}
 use Rattle.energy_report.specs.Rows.{rows_in, shown, shown_rows}
 use Rattle.energy_report.proofs.SumLemmas.{sums}
 
--- If the interval counts of all report rows add up to less than 2^64, and the energies to less than
--- 2^128 mWh, the rows are exact.
+-- Suppose that the interval counts of all report rows add up to less than 2^64, and the energies to
+-- less than 2^128 mWh. Then the printed rows are the rows themselves, with nothing cut off at these
+-- limits.
 fits : (rows : List Row) → intervals_of_rows rows < 2 ^ 64 → energy_of_rows rows < 2 ^ 128 → map shown rows ≡ rows
 fits [] few small = refl
 fits (row ∷ rows) few small =

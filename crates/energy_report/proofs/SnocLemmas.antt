@@ -1,4 +1,5 @@
--- Lemmas about the rows of a report after one more day is added.
+-- Lemmas: one more day changes only the end of a report's rows. The day is added to the last row,
+-- or begins a new row.
 use Rattle.std.proofs.Common.{◌≡◌, ℕ, suc, ◌+◌, ◌-◌, ◌≤◌, ◌^◌, Bool, true, false, cond, List, [], ◌∷◌, ◌++◌, length, refl, sym, ◌∙◌, ap, add_assoc, append-nil, arith, inl, inr}
 use Rattle.std.specs.Prelude.{filter, min}
 use Rattle.std.proofs.Math.Nat.{min-eq_left, min-eq_right}
@@ -110,8 +111,8 @@ capped most a b = elim (cases_lt a most) [
   | inr more ↦ ap (λ n. min (n + b) most) (min-eq_right more) ∙ min-eq_right (omega arith) ∙ sym (min-eq_right (omega (arith, more)))
 ]
 
--- Limiting a report row's interval count and energy before or after a day is added yields the same
--- printed row.
+-- Printing limits a report row's interval count to 2^64 - 1 and its energy to 2^128 - 1. If these
+-- limits are also applied before a day is added to the row, the printed row is the same.
 pub shown-joined : (row : Row) (t : DayTotal) → shown (joined (shown row) (row_of t)) ≡ shown (joined row (row_of t))
 shown-joined row t =
     ap (λ n. record { first = row.first; count = n; mwh = min (min row.mwh (2 ^ 128 - 1) + t.mwh) (2 ^ 128 - 1) }) (capped (2 ^ 64 - 1) row.count t.count)

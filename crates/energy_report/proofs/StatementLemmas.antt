@@ -1,4 +1,5 @@
--- Lemmas about the text of a statement (billing report), which is written row by row.
+-- Lemmas: the texts of the rows of a statement (billing report), appended one by one, make up the
+-- complete text of the rows.
 use Rattle.std.proofs.Common.{◌≡◌, ℕ, zero, suc, ◌+◌, ◌<◌, ◌==◌, List, [], ◌∷◌, ◌++◌, length, take, drop, get_or, refl, sym, ◌∙◌, ap, append-nil, append_assoc, arith}
 use Rattle.std.specs.List.{flat_map, join_by}
 use Rattle.std.proofs.lemmas.Bool.{ne_eqb}
@@ -48,7 +49,8 @@ pub begun_more : (form : StatementForm) (done : List MeterStatement) (row : Mete
 begun_more form done row =
     begun form done row [] ∙ ap (λ text. begun_text form done ++ text) (append-nil (piece form (length done) row))
 
--- A list consists of the elements before an index, the element at the index, and the rest.
+-- A list consists of the elements before an index, the element at the index, and the elements after
+-- it.
 
 around : {X : Type 0} (xs : List X) (i : ℕ) (d : X) → i < length xs → take i xs ++ get_or xs i d ∷ drop (suc i) xs ≡ xs
 around [] i d lt = absurd (omega (arith, lt))

@@ -1,4 +1,4 @@
--- Lemmas about the sums of the counts and energies of report rows.
+-- Lemmas: the counts and energies of a report's rows add up to those of the report's days.
 use Rattle.std.proofs.Common.{◌≡◌, ℕ, ◌+◌, Bool, true, false, cond, List, [], ◌∷◌, refl, sym, ◌∙◌, ap, add_assoc}
 use Rattle.std.specs.Prelude.{sum_by}
 use Rattle.std.proofs.lemmas.List.Sums.{sum_by-cons}
@@ -9,7 +9,7 @@ use Rattle.energy_report.specs.Periods.{is_same}
 use Rattle.energy_report.specs.Rows.{before, joined, row_of, rows_by}
 
 -- True if the value of a function for two merged report rows is the sum of its values for the two
--- rows. The count and the energy are such functions.
+-- rows. This is so for the number of quarter hours and for the energy.
 abbrev pub Adds : (Row → ℕ) → Type 0
 Adds f = (row next : Row) → f (joined row next) ≡ f row + f next
 

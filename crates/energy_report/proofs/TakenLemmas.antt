@@ -1,4 +1,5 @@
--- Lemmas about the text that a report has written after each day that the report received.
+-- Lemmas: after each day that a report received, it has written all rows except the pending one
+-- (not written yet), or a beginning of them if a write failed.
 use Rattle.std.proofs.Common.{◌≡◌, ℕ, ◌+◌, ◌-◌, ◌<◌, ◌≤◌, ◌^◌, ◌==◌, Bool, true, false, cond, Option, Some, None, List, [], ◌∷◌, ◌++◌, length, refl, sym, ◌∙◌, ap, subst, append-nil, append_assoc, length-append, arith}
 use Rattle.std.specs.Prelude.{min}
 use Rattle.std.specs.Io.KnownBytes.{Appends}
@@ -165,7 +166,8 @@ part_of form front days goes =
     (split.0 ++ end, whole form days rows goes.2 ∙ ap (λ text. text ++ end) split.1 ∙ append_assoc (begun_text form front) split.0 end)
 
 module _ {W : Type 0} (contents : W → Option (List ℕ)) where
-  -- If the report received fewer than 2^64 days, then its count of written rows is exact.
+  -- If the report received fewer than 2^64 days, then its count of written rows is exact, because
+  -- the count saturates only at 2^64 - 1.
   counted : (form : ReportForm) (days : List DayTotal) (done : List Row) (last : Row) (count next : ℕ) → rows_in form days ≡ done ++ last ∷ []
       → length days < 2 ^ 64 → count ≡ length done → next ≡ min (count + 1) (2 ^ 64 - 1) → next ≡ length (done ++ last ∷ [])
   counted form days done last count next rows less is after_it =

@@ -1,5 +1,5 @@
--- Lemmas about the tally (first and last entry, corrections) of a meter's entries after one more
--- entry.
+-- Lemmas: adding the entries of a meter to its tally (first and last entry, corrections) one by one
+-- gives the tally of all these entries.
 use Rattle.std.proofs.Common.{◌≡◌, ℕ, ◌+◌, Bool, true, false, cond, Option, Some, None, List, [], ◌∷◌, ◌++◌, reverse, refl, sym, ◌∙◌, ap, arith}
 use Rattle.std.specs.List.{count_by, find}
 use Rattle.std.specs.Option.{option_map, option_or}
@@ -12,7 +12,7 @@ use Rattle.office_books.specs.declared.entries.MeterEntry.{MeterEntry}
 use Rattle.interval_core.specs.declared.day_range.DayRange.{DayRange}
 use Rattle.energy_report.specs.declared.tallies.EntryTally.{EntryTally}
 use Rattle.energy_report.specs.RowLines.{counted}
-use Rattle.energy_report.specs.Statements.{is_corrected, is_manual, is_rescale, is_reset, is_voided, counter_after_entry, stands_within, tally_of}
+use Rattle.energy_report.specs.Statements.{is_closing, is_corrected, is_manual, is_rescale, is_reset, is_voided, counter_after_entry, opens_within, stands_within, tally_of}
 use Rattle.energy_report.proofs.SnocLemmas.{capped}
 
 count_push : {X : Type 0} (p : X → Bool) (xs : List X) (x : X) → count_by p (xs ++ x ∷ []) ≡ count_by p xs + cond (p x) 1 0
@@ -60,17 +60,27 @@ with_entry zone range old e = record {
   resets = counted (old.resets + cond (is_corrected zone range is_reset e) 1 0);
   rescales = counted (old.rescales + cond (is_corrected zone range is_rescale e) 1 0);
   voids = counted (old.voids + cond (is_voided zone range e) 1 0);
+  openings = counted (old.openings + cond (opens_within zone range e) 1 0);
+  closings = counted (old.closings + cond (is_corrected zone range is_closing e) 1 0);
 }
 
 -- A tally of a meter's entries with the given first and last state of the counter and the given
--- numbers of corrections.
-abbrev tally : (first last : Option Last) (by_hand resets rescales voids : ℕ) → EntryTally
-tally first last by_hand resets rescales voids =
-    record { first = first; last = last; by_hand = by_hand; resets = resets; rescales = rescales; voids = voids }
+-- numbers of corrections, openings and closings.
+abbrev tally : (first last : Option Last) (by_hand resets rescales voids openings closings : ℕ) → EntryTally
+tally first last by_hand resets rescales voids openings closings = record {
+  first = first;
+  last = last;
+  by_hand = by_hand;
+  resets = resets;
+  rescales = rescales;
+  voids = voids;
+  openings = openings;
+  closings = closings;
+}
 
-pub alike : {f f' l l' : Option Last} {h h' r r' s s' v v' : ℕ} → f ≡ f' → l ≡ l' → h ≡ h' → r ≡ r' → s ≡ s' → v ≡ v'
-    → tally f l h r s v ≡ tally f' l' h' r' s' v'
-alike ef el eh er es ev = rw (ef, el, eh, er, es, ev) refl
+pub alike : {f f' l l' : Option Last} {h h' r r' s s' v v' o o' c c' : ℕ} → f ≡ f' → l ≡ l' → h ≡ h' → r ≡ r' → s ≡ s' → v ≡ v' → o ≡ o' → c ≡ c'
+    → tally f l h r s v o c ≡ tally f' l' h' r' s' v' o' c'
+alike ef el eh er es ev eo ec = rw (ef, el, eh, er, es, ev, eo, ec) refl
 
 pub one_more : (zone : Zone) (range : DayRange) (before : List MeterEntry) (e : MeterEntry) (old : EntryTally)
     → old ≡ tally_of zone range before → with_entry zone range old e ≡ tally_of zone range (before ++ e ∷ [])
@@ -79,3 +89,4 @@ one_more zone range before e old is =
     ∙ alike (first (stands_within zone range) before e) (last (stands_within zone range) before e)
     (counts (is_corrected zone range is_manual) before e) (counts (is_corrected zone range is_reset) before e)
     (counts (is_corrected zone range is_rescale) before e) (counts (is_voided zone range) before e)
+    (counts (opens_within zone range) before e) (counts (is_corrected zone range is_closing) before e)

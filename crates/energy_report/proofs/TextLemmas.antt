@@ -1,4 +1,5 @@
--- Lemmas about the text of a report whose rows are written one by one.
+-- Lemmas: the texts of a report's rows, written one by one, and the end of the report make up the
+-- report's complete text.
 use Rattle.std.proofs.Common.{◌≡◌, ℕ, suc, ◌==◌, Option, List, [], ◌∷◌, ◌++◌, map, length, refl, sym, ◌∙◌, ap, append-nil, append_assoc, arith}
 use Rattle.std.specs.List.{flat_map}
 use Rattle.std.specs.Io.KnownBytes.{Appends}

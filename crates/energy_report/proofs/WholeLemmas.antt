@@ -1,4 +1,5 @@
--- Lemmas about the report rows that are computed from days in order.
+-- Lemmas: if the days of a report are in order, each row has the energy of all days of its period,
+-- and no two rows are of the same period.
 use Rattle.std.proofs.Common.{◌≡◌, ◌+◌, Bool, true, false, cond, List, [], ◌∷◌, map, refl, sym, ◌∙◌, ap, arith}
 use Rattle.std.specs.Prelude.{ℤ, pos, ◌<ℤ◌, ◌&&◌, All, filter}
 use Rattle.std.specs.Ordering.{int_eq}
@@ -123,7 +124,7 @@ set_apart p total days rows none far whole =
       (far, whole.1),
     )
 
--- True if a day is later than the day with the number `day` since 1970-01-01.
+-- True if a day is later than the day with the number `day`, counted from 1970-01-01.
 abbrev LaterThan : ℤ → DayTotal → Type 0
 LaterThan day total = day <ℤ epoch_day total.day
 

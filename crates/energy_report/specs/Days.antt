@@ -80,8 +80,8 @@ pub record AreFew (parts : Parts) : Type 0 where
   pub month : parts.month < 100
   pub day : parts.day < 100
 
--- True if the numbers are the year, month and day in a text of the form `YYYY-MM-DD`. For `None`,
--- true if the text has another form.
+-- True if `Some parts` has the year, month and day of a text of the form `YYYY-MM-DD`. `None`
+-- requires that the text has another form.
 abbrev pub PartsAre : List ℕ → Option Parts → Type 0
 PartsAre text (Some parts) = AreFew parts × (parts_text parts ≡ text)
 PartsAre text None = (parts : Parts) → AreFew parts → ¬ (parts_text parts ≡ text)

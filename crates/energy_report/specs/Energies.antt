@@ -7,8 +7,8 @@ use Rattle.energy_report.specs.declared.energy_within.EnergyWithin.{EnergyWithin
 use Rattle.interval_core.specs.declared.day_range.DayRange.{DayRange}
 use Rattle.interval_core.specs.Ranges.{has_moment}
 
--- True if an `EnergyWithin` is new, with the given time zone, the given range of days and an energy
--- of 0.
+-- True if an accumulator `EnergyWithin` is new, with the given time zone, the given range of days
+-- and an energy of 0.
 pub record IsFresh (zone : Zone) (range : DayRange) (new : EnergyWithin) : Type 0 where
   pub zone_is : new.zone ≡ zone
   pub range_is : new.range ≡ range

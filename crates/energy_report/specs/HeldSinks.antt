@@ -7,8 +7,8 @@ use Rattle.office_events.specs.declared.facts.HeldReading.{HeldReading}
 use Rattle.energy_report.specs.declared.held_within.RejectedWithin.{RejectedWithin}
 use Rattle.energy_report.specs.Held.{none_held, with_one}
 
--- True if a `RejectedWithin` is new, with the given time zone, the given range of days, and counts
--- of rejected readings that are all 0.
+-- True if a `RejectedWithin` (which counts rejected readings) is new, with the given time zone, the
+-- given range of days, and counts that are all 0.
 pub record HasCountedNone (zone : Zone) (range : DayRange) (new : RejectedWithin) : Type 0 where
   pub zone_is : new.zone ≡ zone
   pub range_is : new.range ≡ range

@@ -38,7 +38,8 @@ RowsAddUp = (form : ReportForm) (days : List DayTotal)
     × (intervals_of_rows (rows_in form days) ≡ intervals_of_days (days_in form.range days))
 
 -- Theorem: suppose that the days in the requested range of a report have fewer than 2^64 intervals
--- and less than 2^128 mWh in total. Then the printed rows are exact.
+-- and less than 2^128 mWh in total. Then no count or energy of a printed row is cut off at the
+-- limit of its type.
 abbrev pub RowsAreShown : Type 0
 RowsAreShown = (form : ReportForm) (days : List DayTotal)
     → intervals_of_days (days_in form.range days) < 2 ^ 64
@@ -86,7 +87,7 @@ IsHeld total = (total.count < 2 ^ 32) × (total.mwh < 2 ^ 128)
 
 -- Theorem: suppose that the days are in order, and that their counts and energies fit in their
 -- types. Then the report without options (all days, one row for each day, mWh, text) is the text
--- `days_text` of the list of days.
+-- `days_text`: a line for each day, and a last line with the number of days.
 abbrev pub PlainReportsAreListsOfDays : Type 0
 PlainReportsAreListsOfDays = (days : List DayTotal) → AreInOrder (map account_of days)
     → All IsHeld days → report_text plain_form days ≡ days_text days

@@ -13,8 +13,8 @@ counted n = min n 18446744073709551615
 abbrev pub one_more_if : (counts : Bool) → (count : ℕ) → ℕ
 one_more_if counts count = counted (count + (if counts then 1 else 0))
 
--- True if the text of `count` rows was written and the rows were counted. If a write failed, true
--- if a beginning of the text was written.
+-- True if a writer of a report's lines wrote the text `text` of `count` rows, and counted these
+-- rows. If a write failed, true if a beginning of the text was written.
 pub record HasWritten {W : Type 0} (contents : W → Option (List ℕ)) (text : List ℕ) (count : ℕ)
     (old new : RowLines W) : Type 0 where
   pub output : new.output.ghost_name ≡ old.output.ghost_name

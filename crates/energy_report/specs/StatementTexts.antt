@@ -19,8 +19,8 @@ use Rattle.energy_report.specs.Texts.{ending_by, energy_text, separator_by, unit
 
 -- Definitions for the texts of the state of a counter: its timestamp and its value.
 
--- The text that is printed instead of a counter's state if the meter has no valid entry in the
--- range of days.
+-- The text that is printed instead of a counter's state if the meter has no valid (not voided)
+-- entry in the requested range of days.
 abbrev pub nothing : Format → List ℕ
 nothing Text = codes "-"
 nothing Csv = []
@@ -117,6 +117,12 @@ count_fields mark tally =
     mark ++ decimal tally.by_hand ++ mark ++ decimal tally.resets ++ mark
     ++ decimal tally.rescales ++ mark ++ decimal tally.voids
 
+-- The numbers of a meter's openings (first entries) and closings (last entries) as fields, each
+-- preceded by the separator `mark`.
+abbrev pub opening_and_closing_fields : (mark : List ℕ) → EntryTally → List ℕ
+opening_and_closing_fields mark tally =
+    mark ++ decimal tally.openings ++ mark ++ decimal tally.closings
+
 -- The statement (billing report) of a meter as fields, with the separator `mark` between them.
 abbrev pub fields : StatementForm → (mark : List ℕ) → MeterStatement → List ℕ
 fields form mark row =
@@ -124,6 +130,7 @@ fields form mark row =
     ++ stand_fields form mark row.entries.last
     ++ mark ++ energy_text form.unit row.mwh ++ count_fields mark row.entries
     ++ mark ++ held_text form.format row.held
+    ++ opening_and_closing_fields mark row.entries
 
 -- Definitions for the statement (billing report) of a meter as a JSON object.
 
@@ -133,13 +140,14 @@ stand_members unit word stand =
     codes "\"" ++ word ++ codes "\":" ++ moment_text Json stand ++ codes ",\"" ++ word ++ codes "_"
     ++ unit_word unit ++ codes "\":" ++ worth_text Json unit stand ++ codes ","
 
--- The numbers of a meter's corrections (readings by hand, resets, rescales, voids) as members of a
--- JSON object.
+-- The numbers of a meter's corrections (readings by hand, resets, rescales, voids), openings and
+-- closings as members of a JSON object.
 abbrev pub count_members : EntryTally → List ℕ
 count_members tally =
     codes ",\"by_hand\":" ++ decimal tally.by_hand ++ codes ",\"resets\":" ++ decimal tally.resets
     ++ codes ",\"rescales\":" ++ decimal tally.rescales ++ codes ",\"voids\":"
-    ++ decimal tally.voids
+    ++ decimal tally.voids ++ codes ",\"openings\":" ++ decimal tally.openings
+    ++ codes ",\"closings\":" ++ decimal tally.closings
 
 -- The statement (billing report) of a meter as the text of a JSON object.
 abbrev pub object : EnergyUnit → MeterStatement → List ℕ
@@ -165,7 +173,8 @@ row_text form row = row_by form.format form row
 abbrev pub csv_header : EnergyUnit → List ℕ
 csv_header unit =
     codes "meter,first,first_" ++ unit_word unit ++ codes ",last,last_" ++ unit_word unit
-    ++ codes ",energy_" ++ unit_word unit ++ codes ",by_hand,resets,rescales,voids,held\r\n"
+    ++ codes ",energy_" ++ unit_word unit
+    ++ codes ",by_hand,resets,rescales,voids,held,openings,closings\r\n"
 
 -- The text before the first row of a statement (billing report) in a given format.
 abbrev pub opening_by : Format → EnergyUnit → List ℕ
@@ -187,8 +196,8 @@ abbrev pub lead : (is_first : Bool) → StatementForm → List ℕ
 lead true form = []
 lead false form = separator form
 
--- The text of a statement (billing report) with the given rows, without the text that ends the
--- statement.
+-- The text of a statement (billing report) with the given rows, without the ending (`ending_by`)
+-- that the report's format adds after the last row.
 abbrev pub begun_text : StatementForm → List MeterStatement → List ℕ
 begun_text form rows = opening form ++ join_by (row_text form) (separator form) rows
 

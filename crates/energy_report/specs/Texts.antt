@@ -1,4 +1,4 @@
--- The text of a report: its rows in one of three formats, with energies in mWh or kWh.
+-- The text of an energy report: its rows in one of three formats, with energies in mWh or kWh.
 use Rattle.std.specs.Prelude.{ℕ, zero, suc, Bool, true, false, ◌++◌, ◌∷◌, negsuc, List, [], length, codes}
 use Rattle.std.specs.List.{join_by}
 use Rattle.std.specs.Fmt.{decimal}
@@ -75,7 +75,7 @@ row_by Text = text_row
 row_by Csv = csv_row
 row_by Json = json_row
 
--- A row of a report in the requested format.
+-- A row of an energy report as text, in the requested format: plain text, CSV or JSON.
 abbrev pub row_text : ReportForm → Row → List ℕ
 row_text form row = row_by form.format form row
 

@@ -103,8 +103,9 @@ abbrev pub IsFinished : {W : Type 0} → (W → Option (List ℕ)) → List DayT
 IsFinished contents days from to = GotUnless to.failed (report_text from.form days)
     (contents from.output.now) (contents to.output.now)
 
--- The effect of `finish` on a report that received fewer than 2^64 days. The complete report on all
--- these days was written, or a beginning of it if a write failed.
+-- The effect of the function `finish`, which ends a report, on a report that received fewer than
+-- 2^64 days. The complete report on all these days was written, or a beginning of it if a write
+-- failed.
 pub record Finishes {W : Type 0} (contents : W → Option (List ℕ)) (old new : ReportRows W)
     : Type 0 where
   pub output : new.output.ghost_name ≡ old.output.ghost_name

@@ -8,7 +8,7 @@ use office_books::RowSink;
 /// Adds up the energy of the quarter hours that start in a range of days, by the clocks of a time
 /// zone.
 ///
-/// The sum saturates at 2^128 - 1 mWh.
+/// The sum of the energies of the quarter hours saturates at 2^128 - 1 mWh.
 #[derive(Drop)]
 pub struct EnergyWithin {
     zone: Zone,

@@ -19,7 +19,7 @@ pub enum Period {
 /// The unit in which a report prints energy.
 #[derive(Clone, Copy, Debug, PartialEq, Eq)]
 pub enum EnergyUnit {
-    /// Whole milliwatt-hours (mWh).
+    /// Energies in whole milliwatt-hours (mWh).
     MilliwattHours,
     /// Kilowatt-hours (kWh) with six decimals, which represent every number of mWh exactly.
     KilowattHours,
@@ -32,7 +32,7 @@ pub enum Format {
     Text,
     /// A CSV table with a header, as in RFC 4180.
     Csv,
-    /// A JSON array with one object for each row.
+    /// The output format JSON: an array with one object for each row of the report.
     Json,
 }
 

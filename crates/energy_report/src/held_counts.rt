@@ -10,22 +10,28 @@ use energy_core::Cause;
 /// The number of rejected readings for each cause of rejection. Each count saturates at 2^64 - 1.
 #[derive(Clone, Copy)]
 pub struct RejectedCounts {
-    /// The counter showed 0. SunSpec defines this value as that of an accumulator that does not
-    /// count.
+    /// The number of readings rejected because the counter showed 0, which SunSpec defines as the
+    /// value of an accumulator that does not count.
     pub not_accumulated: u64,
-    /// The scale factor of the reading differed from the scale factor of the meter's last entry.
+    /// The number of readings rejected because their scale factor differed from that of the meter's
+    /// last entry.
     pub scale_changed: u64,
-    /// The reading was not later than the meter's last entry.
+    /// The number of readings rejected because they were not later than the meter's last entry.
     pub not_later: u64,
-    /// More than 3,000 quarter hours had passed since the meter's last entry.
+    /// The number of readings rejected because the time since the meter's last entry touched more
+    /// than 3,000 quarter hours.
     pub span_too_long: u64,
-    /// The counter could have advanced by its full range or more since the meter's last entry.
+    /// The number of readings rejected because the counter could have advanced by its full range or
+    /// more since the meter's last entry.
     pub gap_too_long: u64,
-    /// The counter advanced further than the greatest power of the meter (its ceiling) allows.
+    /// The number of readings rejected because the counter advanced further than the greatest power
+    /// of the meter (its ceiling) allows.
     pub too_fast: u64,
-    /// The total energy of the meter would have exceeded its limit.
+    /// The number of readings rejected because the total energy of the meter would have exceeded
+    /// its limit.
     pub total_full: u64,
-    /// The counter showed a number that is not below the counter's range.
+    /// The number of readings rejected because the counter showed a number that is not below the
+    /// counter's range.
     pub not_below_range: u64,
 }
 

@@ -9,8 +9,9 @@ pub fn rows_add_up()
     ensures { RowsAddUp }
 {}
 
-/// Proves that the printed rows are exact if the days in the requested range have fewer than 2^64
-/// intervals and less than 2^128 mWh in total.
+/// Proves that no count or energy of a printed row is cut off at the limit of its type. This
+/// assumes that the days in the requested range have fewer than 2^64 intervals and less than 2^128
+/// mWh in total.
 pub fn rows_are_shown()
     ensures { RowsAreShown }
 {}

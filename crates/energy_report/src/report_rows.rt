@@ -1,4 +1,4 @@
-//! Writes a report whose days arrive one by one.
+//! Writes an energy report from days that the caller passes one by one.
 ghost use Rattle.std.specs.Prelude.{◌≡◌};
 
 use crate::form::ReportForm;
@@ -13,7 +13,7 @@ use sun_points::Sink;
 /// Writes the rows of a report, whose days arrive one by one. A row is written when a day of the
 /// next period arrives.
 ///
-/// After a failed write, all later days are dropped.
+/// After a write of the report has failed, all days that arrive later are dropped.
 #[derive(Drop)]
 pub struct ReportRows<'o, W> {
     form: ReportForm,

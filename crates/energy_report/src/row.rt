@@ -6,8 +6,8 @@ use interval_core::{Day, DayTotal};
 
 /// A row of a report, which is the sum of days in one period.
 ///
-/// `first` is the first of these days, `count` the number of the days' quarter hours, and `mwh` the
-/// days' energy in mWh.
+/// `first` is the first day in the row, `count` the number of quarter hours of the row's days, and
+/// `mwh` the energy of these days in mWh.
 #[derive(Clone, Copy)]
 pub struct Row {
     pub first: Day,

@@ -8,7 +8,7 @@ use std::io::Write;
 
 /// Writes a line of text for each row that arrives, and counts the rows up to 2^64 - 1.
 ///
-/// After a failed write, all later rows are dropped.
+/// After a write of a line has failed, all rows that arrive later are dropped.
 #[derive(Drop)]
 pub struct RowLines<'o, W> {
     pub output: &'o mut W,

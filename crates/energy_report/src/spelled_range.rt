@@ -37,7 +37,8 @@ fn read_end(word: Option<&str>) -> Result<Option<Day>, NoDay>
 /// Parses a range of days from two command line arguments: the first day, and the day after the
 /// last day. Both arguments have the form `YYYY-MM-DD`.
 ///
-/// If an argument is `None`, the range is open at this end.
+/// If the command line argument for the first or the end day is `None`, the range is open at this
+/// end.
 pub fn read_range(from: Option<&str>, till: Option<&str>) -> Result<DayRange, RangeFault>
     ensures { MatchResult result (IsRange from.entry till.entry)
         (IsRangeFault from.entry till.entry) }

@@ -1,5 +1,5 @@
-//! Writes the statements (billing reports) of meters in a range of days. No function allocates
-//! memory.
+//! Writes the statements (billing reports) of meters in a range of days. No function of this module
+//! allocates memory.
 ghost use Rattle.std.specs.Prelude.{◌≡◌, ◌≤◌, ◌+◌, ◌++◌, ◌&&◌, ◌==◌, length};
 ghost use Rattle.sun_points.specs.Writing.{GotText};
 ghost use Rattle.energy_core.specs.Verdict.{cause_number};
@@ -62,7 +62,7 @@ fn push_header(page: &mut Page, unit: EnergyUnit)
     page.push(unit_word(unit));
     page.push(b",energy_");
     page.push(unit_word(unit));
-    page.push(b",by_hand,resets,rescales,voids,held\r\n");
+    page.push(b",by_hand,resets,rescales,voids,held,openings,closings\r\n");
 }
 
 fn ending_page(form: &StatementForm, count: u64) -> Page
@@ -283,7 +283,7 @@ fn push_fields(page: &mut Page, form: &StatementForm, mark: &[u8], row: &MeterSt
     requires room { length page.old ≤ 2 }
     requires few { length mark.now ≤ 1 }
     ensures bytes { page.new ≡ page.old ++ text.fields form.now mark.now row.now }
-    ensures size { length page.new ≤ length page.old + 700 }
+    ensures size { length page.new ≤ length page.old + 750 }
 {
     page.push(row.meter.as_bytes());
     push_counter_fields(page, form, mark, &row.entries.first);
@@ -293,6 +293,7 @@ fn push_fields(page: &mut Page, form: &StatementForm, mark: &[u8], row: &MeterSt
     push_count_fields(page, mark, &row.entries);
     page.push(mark);
     push_held(page, form.format, &row.held);
+    push_opening_and_closing_fields(page, mark, &row.entries);
 }
 
 fn push_counter_fields(page: &mut Page, form: &StatementForm, mark: &[u8], stand: &Option<Last>)
@@ -317,6 +318,16 @@ fn push_count_fields(page: &mut Page, mark: &[u8], tally: &EntryTally)
     page.push_number(mark, tally.resets);
     page.push_number(mark, tally.rescales);
     page.push_number(mark, tally.voids);
+}
+
+fn push_opening_and_closing_fields(page: &mut Page, mark: &[u8], tally: &EntryTally)
+    requires room { length page.old ≤ 800 }
+    requires few { length mark.now ≤ 1 }
+    ensures bytes { page.new ≡ page.old ++ text.opening_and_closing_fields mark.now tally.now }
+    ensures size { length page.new ≤ length page.old + 42 }
+{
+    page.push_number(mark, tally.openings);
+    page.push_number(mark, tally.closings);
 }
 
 // Appends the statement (billing report) of a meter as a JSON object.
@@ -363,10 +374,12 @@ fn push_counter_members(page: &mut Page, unit: EnergyUnit, word: &[u8], stand: &
 fn push_count_members(page: &mut Page, tally: &EntryTally)
     requires { length page.old ≤ 500 }
     ensures bytes { page.new ≡ page.old ++ text.count_members tally.now }
-    ensures size { length page.new ≤ length page.old + 130 }
+    ensures size { length page.new ≤ length page.old + 200 }
 {
     page.push_number(b",\"by_hand\":", tally.by_hand);
     page.push_number(b",\"resets\":", tally.resets);
     page.push_number(b",\"rescales\":", tally.rescales);
     page.push_number(b",\"voids\":", tally.voids);
+    page.push_number(b",\"openings\":", tally.openings);
+    page.push_number(b",\"closings\":", tally.closings);
 }

@@ -12,23 +12,28 @@ use meter_journal::EntryKind;
 use office_books::MeterEntry;
 
 /// The tally of a meter's entries in a range of days. The tally has the counter's state after the
-/// first and after the last entry, and the numbers of corrections.
+/// first and after the last entry, and the numbers of corrections, openings and closings.
 ///
-/// Each number of corrections saturates at 2^64 - 1.
+/// Each number saturates at 2^64 - 1.
 #[derive(Clone, Copy)]
 pub struct EntryTally {
-    /// The counter's state after the first and after the last valid entry in the range of days.
-    /// `None` if there is no valid entry.
+    /// The counter's state after the first and after the last valid (not voided) entry in the range
+    /// of days. `None` if there is no valid entry.
     pub first: Option<Last>,
     pub last: Option<Last>,
-    /// The number of a meter's valid readings by hand in the range of days.
+    /// The number of a meter's valid (not voided) readings by hand in the range of days.
     pub by_hand: u64,
-    /// The numbers of a meter's valid resets and valid rescales in the range of days.
+    /// How many valid (not voided) resets a meter has in the range of days, and how many valid
+    /// rescales (changes of the scale factor).
     pub resets: u64,
     pub rescales: u64,
     /// The number of voided (cancelled) entries in the range of days. A voided entry counts if its
     /// own timestamp is in the range, whenever it was voided.
     pub voids: u64,
+    /// The numbers of a meter's openings (first entries) and valid closings (last entries) in the
+    /// range of days.
+    pub openings: u64,
+    pub closings: u64,
 }
 
 impl EntryTally {
@@ -43,6 +48,8 @@ impl EntryTally {
             resets: 0,
             rescales: 0,
             voids: 0,
+            openings: 0,
+            closings: 0,
         }
     }
 
@@ -71,6 +78,8 @@ impl EntryTally {
             resets: tallied(self.resets, both(counts, is_reset(entry))),
             rescales: tallied(self.rescales, both(counts, is_rescale(entry))),
             voids: tallied(self.voids, both(is_within, !is_valid(entry))),
+            openings: tallied(self.openings, both(counts, is_opening(entry))),
+            closings: tallied(self.closings, both(counts, is_closing(entry))),
         };
     }
 }
@@ -137,6 +146,27 @@ fn is_rescale(entry: &MeterEntry) -> bool
         MeterEntry::Later { row, .. } => match row.kind {
             EntryKind::Rescale => true,
             EntryKind::Reading | EntryKind::Manual | EntryKind::Closing | EntryKind::Reset => false,
+        },
+    }
+}
+
+fn is_opening(entry: &MeterEntry) -> bool
+    ensures { result ≡ statements.is_opening entry.now }
+{
+    match entry {
+        MeterEntry::Opening(_) => true,
+        MeterEntry::Later { .. } => false,
+    }
+}
+
+fn is_closing(entry: &MeterEntry) -> bool
+    ensures { result ≡ statements.has_kind statements.is_closing entry.now }
+{
+    match entry {
+        MeterEntry::Opening(_) => false,
+        MeterEntry::Later { row, .. } => match row.kind {
+            EntryKind::Closing => true,
+            EntryKind::Reading | EntryKind::Manual | EntryKind::Reset | EntryKind::Rescale => false,
         },
     }
 }

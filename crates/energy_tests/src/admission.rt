@@ -98,7 +98,8 @@ static CASES: [Case; 21] = [
         entry: step!(2_700_901, 5300, 0),
         answer: Err(TermFault::SpanTooLong),
     },
-    // Test of a meter entry with the greatest number of rollovers.
+    // Tests that the entry check accepts a meter entry with 255 rollovers, the greatest number, and
+    // computes its energy.
     Case {
         total: 0,
         last: last!(1900, 5200, -3),
@@ -158,8 +159,7 @@ static CASES: [Case; 21] = [
         entry: change!(2000, 5200, 1, 4),
         answer: Err(TermFault::BadScale),
     },
-    // Tests of meter entries with several faults. The first fault in the order of the rules is
-    // reported.
+    // Tests of meter entries with several faults. The fault that is checked first is reported.
     Case {
         total: NEARLY_FULL,
         last: PREVIOUS,
@@ -277,7 +277,8 @@ fn enters<C: Counter>(rt: &impl Abort, counter: &C, cases: &[Case]) {
     }
 }
 
-/// Checks that an entry is recorded, or refused for the first fault that applies.
+/// Checks for each of 21 test cases that a meter entry is recorded, or refused for the expected
+/// fault, which is the first fault that applies.
 #[test]
 fn entries_are_booked_or_refused(rt: HostRuntime) {
     enters(&rt, &Acc32, &CASES);

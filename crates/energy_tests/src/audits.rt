@@ -46,7 +46,8 @@ const SHARES: [Share; 2] = [
     },
 ];
 
-/// Returns the fault for which the audit refuses a row after the meter's first entry, or `None`.
+/// Returns the fault for which the audit refuses a row after the meter's first entry, or `None` if
+/// the audit accepts the row.
 fn refused(row: TableRow) -> Option<RowFault>
     requires { row.place < 2 ^ 63 }
 {
@@ -99,8 +100,8 @@ fn a_voided_row_gives_none(rt: HostRuntime) {
     assert!(rt; progress.wanted.is_empty());
 }
 
-/// Checks that a voided (cancelled) reading directly after a valid row is checked like a valid
-/// reading.
+/// Checks that a voided (cancelled) reading directly after a valid (not voided) row is checked like
+/// a valid reading.
 #[test]
 fn a_voided_row_is_checked_after_a_valid_one(rt: HostRuntime) {
     let fast = TableRow {
@@ -127,8 +128,8 @@ fn a_refused_row_is_passed_over(rt: HostRuntime) {
     assert!(rt; progress.check.place == 3 && progress.check.total == 0);
 }
 
-/// Checks that the audit refuses a row of the entry table if an unused column is not 0. The same
-/// applies if an entry other than a rescale changes the scale factor.
+/// Checks that the audit refuses a row of the entry table if an unused column is not 0. The audit
+/// also refuses an entry other than a rescale that changes the scale factor.
 #[test]
 fn columns_are_looked_at(rt: HostRuntime) {
     assert!(rt; refused(FIRST).is_none());
@@ -171,8 +172,8 @@ fn numbers_are_looked_at(rt: HostRuntime) {
     assert!(rt; refused(back) == Some(RowFault::Refused(TermFault::NegativeStep)));
 }
 
-/// Checks that rows must be in order of time. The first row that is not later than the row before
-/// it is reported by its index.
+/// Checks that a meter's entry rows must be in order of time. The first row that is not later than
+/// the row before it is reported by its index.
 #[test]
 fn rows_in_their_order(rt: HostRuntime) {
     assert!(rt; check_rows(&HOUSE, &[FIRST, SECOND]).is_ok());
@@ -187,7 +188,7 @@ fn rows_in_their_order(rt: HostRuntime) {
     assert!(rt; check_rows(&HOUSE, &[FIRST, late]) == Err(wanted));
 }
 
-/// Checks that no row may follow the closing of a meter.
+/// Checks that the audit refuses a row of a meter that follows the row of the meter's closing.
 #[test]
 fn nothing_comes_after_a_closing(rt: HostRuntime) {
     let closing = TableRow {

@@ -60,7 +60,8 @@ fn books_after_a_void(rt: HostRuntime) {
     assert!(rt; tally.total == 300_000);
 }
 
-/// Checks that no total energy is computed from entry rows that may not follow one another.
+/// Checks that no total energy is computed from rows of the entry table that may not follow one
+/// another by the rules for entries.
 #[test]
 fn rows_that_may_be_any(rt: HostRuntime) {
     let tally = checked_tally(&HOUSE, &ROWS).expect(&rt, "no tally");

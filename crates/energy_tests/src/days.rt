@@ -49,7 +49,8 @@ static CASES: [Case; 7] = [
         step: step!(1_729_980_000, 1_730_070_000, 1_000_000),
         days: &[reported!(2024, 10, 27, 100, 1_000_000)],
     },
-    // Test of a change that sets the clocks back over midnight.
+    // Tests the energy of each civil day if a change of the clocks sets them back over midnight,
+    // which repeats the end of the day before.
     Case {
         zone: "AAA0BBB,M3.2.0/0:30,M11.1.0/0:30",
         step: step!(1_730_587_500, 1_730_592_900, 60_000),

@@ -79,7 +79,8 @@ const ZONES: [(ZoneFault, &str); 2] = [
     (ZoneFault::Memory, "memory ran out"),
 ];
 
-/// Checks that each cause of a rejection and each fault has its text.
+/// Checks the text of each value of four types: causes of a rejected reading, faults of meter
+/// entries, faults of days and faults of time zones.
 #[test]
 fn energy(rt: HostRuntime) {
     assert_texts(&rt, rt.alloc(), &HELD);

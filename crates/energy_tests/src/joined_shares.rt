@@ -4,8 +4,8 @@ use energy_core::Step;
 use interval_core::Share;
 use meter_journal::{append_shares, join};
 
-/// The expected interval rows (energy by quarter hour) of the two steps in the test
-/// `steps_share_an_interval`.
+/// The expected interval rows (energy by quarter hour) of the two steps (between entries) in the
+/// test `steps_share_an_interval`.
 const ROWS: [Share; 3] = [
     Share {
         start: 900,

@@ -1,4 +1,5 @@
-//! Tests the list of a meter's entry rows.
+//! Tests the functions on the list of a meter's entry rows: the check of the sequence numbers, the
+//! search for a row, and the voiding (cancellation) of an entry.
 use crate::samples::{HOUSE, of_kind, reading, struck};
 use energy_core::{Entry, Last};
 use meter_journal::{
@@ -61,8 +62,8 @@ fn a_void_moves_a_rollover(rt: HostRuntime) {
     assert!(rt; rows[1] == reading(3, 2800, 104, 1));
 }
 
-/// Checks that only a reading may be voided (cancelled), and only if the next valid row is a
-/// reading or does not exist.
+/// Checks that only a reading may be voided (cancelled), and only if the next row that is not
+/// voided is a reading or does not exist.
 #[test]
 fn only_readings_are_voided(rt: HostRuntime) {
     let row = reading(2, 1900, 5200, 0);
@@ -75,8 +76,8 @@ fn only_readings_are_voided(rt: HostRuntime) {
     assert!(rt; !is_voidable(&row, &Some(of_kind(EntryKind::Closing, next))));
 }
 
-/// Checks that a meter's entry row is found by its sequence number, together with the next valid
-/// row.
+/// Checks that a meter's entry row is found by its sequence number, together with the next row that
+/// is not voided (cancelled).
 #[test]
 fn rows_by_place(rt: HostRuntime) {
     let rows = [
@@ -92,7 +93,8 @@ fn rows_by_place(rt: HostRuntime) {
     assert!(rt; find_row(&rows, 5).is_none());
 }
 
-/// Checks that the state of the counter follows from the valid (not voided) entry rows only.
+/// Checks the counter's state after a meter's entry rows. It is that of the latest valid (not
+/// voided) row, or that of the opening (the first entry) if no row is valid.
 #[test]
 fn the_counter_after_rows(rt: HostRuntime) {
     let first = reading(2, 1900, 5200, 0);

@@ -15,7 +15,7 @@ pub(crate) const HOUSE: Installed = Installed {
     },
 };
 
-/// Returns the entry row of a valid reading.
+/// Returns the entry row of a reading that is not voided (cancelled).
 pub(crate) fn reading(place: u64, at: u64, raw: u32, rolls: u8) -> EntryRow
     ensures place { result.place ≡ place }
     ensures stands { result.stands ≡ true }

@@ -91,8 +91,8 @@ static CASES: [Case; 22] = [
         reading: reading!(1900, 104, 0),
         verdict: held!(TooFast),
     },
-    // Test of a reading with a lower count than the last entry, if the time is too short for a
-    // rollover.
+    // Tests that a reading with a lower count than the last entry is rejected with `TooFast` if the
+    // time is too short for a rollover.
     Case {
         ceiling: 100_000,
         total: 0,
@@ -100,8 +100,8 @@ static CASES: [Case; 22] = [
         reading: reading!(2800, 5199, 0),
         verdict: held!(TooFast),
     },
-    // Tests of readings after the longest time in which the counter cannot complete a rollover, and
-    // one second later.
+    // Tests that a reading is accepted after the longest time in which the counter cannot complete
+    // a rollover. One second later, it is rejected with `GapTooLong`.
     Case {
         ceiling: 1_000_000,
         total: 0,
@@ -145,7 +145,8 @@ static CASES: [Case; 22] = [
         reading: reading!(3700, 30, 0),
         verdict: accepted!(0, 30_000),
     },
-    // Tests of readings at the limit of the total energy.
+    // Tests that a reading is accepted if the meter's total energy reaches its limit, and rejected
+    // with `TotalFull` if the total would exceed the limit.
     Case {
         ceiling: 1_000_000,
         total: 3_999_999_999_999_999_000,
@@ -176,8 +177,8 @@ static CASES: [Case; 22] = [
         reading: reading!(2_700_001, 2, 0),
         verdict: held!(SpanTooLong),
     },
-    // Tests of readings with several causes of rejection. The first cause in the order of the rules
-    // is reported.
+    // Tests of readings with several causes of rejection. The cause that is checked first is
+    // reported.
     Case {
         ceiling: 1000,
         total: 0,

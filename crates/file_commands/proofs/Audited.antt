@@ -1,5 +1,5 @@
--- Lemmas on the audit of a database file: on successive steps of an audit, and on what an audit
--- prints and how the command ends.
+-- Lemmas: the successive steps of an audit of a database file satisfy the contracts for what the
+-- audit prints, and for how the command `audit` ends.
 use Rattle.std.proofs.Common.{◌≡◌, ◌↔◌, inl, inr, ℕ, Bool, true, false, List, [], ◌∷◌, ◌++◌, ◌&&◌, Option, Some, None, Vec, option_map, sym, ◌≤◌, length, get_or, drop, take, ◌-◌, arith, subst, Result, Ok, Err, IfOk, OnOk, IsTrue, refl, ap, ◌∙◌, not, bytes_eq}
 use Rattle.std.specs.List.{list_any}
 use Rattle.std.specs.Option.{MatchOption}
@@ -12,6 +12,7 @@ use Rattle.store_tables.specs.Content.{Content}
 use Rattle.table_audit.specs.FileMark.{ReportsMark}
 use Rattle.table_audit.specs.Looking.{HoldsRows, HoldsTables, OnlyLooks}
 use Rattle.table_audit.specs.Polls.{ReportsTables as ReportsFindings}
+use Rattle.table_audit.specs.JsonTexts.{with_json}
 use Rattle.table_audit.specs.Texts.{with_findings}
 use Rattle.table_audit.specs.declared.findings.Findings.{Findings}
 use Rattle.table_audit.proofs.Looking.{holds_on}
@@ -27,14 +28,14 @@ use Rattle.table_seals.specs.declared.filed.FiledMeter.{FiledMeter}
 use Rattle.table_seals.specs.declared.joining.Joining.{Joining}
 use Rattle.file_commands.specs.JoinedAudits.{are_apart, AuditsPath, AuditsPaths, AuditsSeveral, EndsSeveral, FindsDifferent, FindsJoined, JoinsNext}
 use Rattle.command_words.specs.declared.line.Sealing.{Sealing}
-use Rattle.command_words.specs.declared.line.Sealing.TheVariants.{Nothing, Print, Against}
+use Rattle.command_words.specs.declared.line.Sealing.TheVariants.{Nothing, Json, Print, Against}
 use Rattle.stored_files.specs.declared.audits.AuditFault.{AuditFault}
 use Rattle.stored_files.specs.declared.ends.ending.Ending.{Ending}
 use Rattle.stored_files.specs.declared.ends.ending.Ending.TheVariants.{Fine, Refused, Wrong, NoText, NoZone, NoDay, Backward, NoSeal, Twice, Failed}
 use Rattle.stored_files.specs.declared.ends.failure.Failure.{Failure}
-use Rattle.file_commands.specs.Audits.{Audits, AuditsAs, AuditsFile, AuditsTables, EndsAudit, FindsNone, PrintsChecked, PrintsDifferences, PrintsFindings, PrintsSeal, ending_of_audit}
+use Rattle.file_commands.specs.Audits.{Audits, AuditsAs, AuditsFile, AuditsTables, EndsAudit, FindsNone, PrintsChecked, PrintsFindings, PrintsJson, PrintsSeal, ending_of_audit, findings_text}
 
--- If a call only looks at the tables, they have the same rows after the call.
+-- If a call only reads the tables of a database, then the tables have the same rows after the call.
 module _ {S : Type 0} (g : Ghosts S) where
   rows_of : (h : Held S) (content : Content) → HoldsTables g h content → HoldsRows g h content
   unfolding HoldsRows HoldsTables
@@ -47,7 +48,8 @@ pub on_ok : {A E P : Type 0} (r : Result A E) → P → OnOk r P
 on_ok (Ok a) p = p
 on_ok (Err e) p = tt
 
--- The findings were printed, with their verdict.
+-- If an audit reported its findings, printed them, and returned their verdict, then it satisfies
+-- `PrintsFindings`, which states what an audit prints.
 pub findings_printed : (content : Content) (findings : Findings) (had holds : Option (List ℕ)) (r : Result Bool AuditFault)
     → ReportsFindings content findings → IfOk r (λ fine. IsTrue fine ↔ (findings.first.items ≡ [])) → OnOk r (Appends had holds (with_findings [] findings))
     → IfOk r (PrintsFindings content had holds)
@@ -58,18 +60,31 @@ different : (fine : Bool) {P : Type 0} → IsTrue fine ↔ P → ((p : P) → �
 different true verdict none = absurd (none (verdict.0 refl))
 different false verdict none = refl
 
-to_any : (seal : Sealing) (content : Content) (had holds : Option (List ℕ)) (fine : Bool) → PrintsDifferences content had holds fine → Audits content seal had holds fine
-to_any Nothing content had holds fine p = p.0
-to_any Print content had holds fine p = inl p
-to_any (Against text) content had holds fine p = inl p
+-- The findings were printed as JSON, with their verdict.
+pub json_printed : (content : Content) (findings : Findings) (had holds : Option (List ℕ)) (r : Result Bool AuditFault)
+    → ReportsFindings content findings → IfOk r (λ fine. IsTrue fine ↔ (findings.first.items ≡ [])) → OnOk r (Appends had holds (with_json [] findings))
+    → IfOk r (PrintsJson content had holds)
+json_printed content findings had holds (Ok fine) reported verdict printed = record { findings = findings; reported = reported; printed = printed; verdict = verdict }
+json_printed content findings had holds (Err fault) reported verdict printed = tt
 
--- If the findings have a difference, then printing them is what an audit with any seal does.
+to_any : (seal : Sealing) (content : Content) (findings : Findings) (had holds : Option (List ℕ)) (fine : Bool) → ReportsFindings content findings
+    → (IsTrue fine ↔ (findings.first.items ≡ [])) → Appends had holds (findings_text seal findings) → fine ≡ false → Audits content seal had holds fine
+to_any Nothing content findings had holds fine reported verdict printed differ = record { findings = findings; reported = reported; printed = printed; verdict = verdict }
+to_any Json content findings had holds fine reported verdict printed differ = record { findings = findings; reported = reported; printed = printed; verdict = verdict }
+to_any Print content findings had holds fine reported verdict printed differ =
+    inl (record { findings = findings; reported = reported; printed = printed; verdict = verdict }, differ)
+to_any (Against text) content findings had holds fine reported verdict printed differ =
+    inl (record { findings = findings; reported = reported; printed = printed; verdict = verdict }, differ)
+
+-- Suppose that an audit found a difference between a file's tables and those that the program would
+-- write, and printed its findings. Then it satisfies the contract `Audits` (what an audit prints),
+-- whether or not a seal (digest) was requested.
 pub differences_printed : (seal : Sealing) (content : Content) (findings : Findings) (had holds : Option (List ℕ)) (r : Result Bool AuditFault)
     → ReportsFindings content findings → ((none : findings.first.items ≡ []) → ⊥)
-    → IfOk r (λ fine. IsTrue fine ↔ (findings.first.items ≡ [])) → OnOk r (Appends had holds (with_findings [] findings))
+    → IfOk r (λ fine. IsTrue fine ↔ (findings.first.items ≡ [])) → OnOk r (Appends had holds (findings_text seal findings))
     → IfOk r (Audits content seal had holds)
 differences_printed seal content findings had holds (Ok fine) reported some verdict printed =
-    to_any seal content had holds fine (record { findings = findings; reported = reported; printed = printed; verdict = verdict }, different fine verdict some)
+    to_any seal content findings had holds fine reported verdict printed (different fine verdict some)
 differences_printed seal content findings had holds (Err fault) reported some verdict printed = tt
 
 -- If an audit compared a database file with a seal (digests of the records of a file at one time),
@@ -102,7 +117,9 @@ both_true true true p q = refl
 both_true true false p q = sym q
 both_true false b p q = sym p
 
--- The meters of a file were compared with those of the earlier files.
+-- Suppose that a file is compared with the earlier files, and a line is added for each difference
+-- (in the time zone, or in a meter that does not continue). Then the contract `JoinsNext` of this
+-- comparison is satisfied.
 pub joined : (file : List ℕ) (content : Content) (meters : Vec FiledMeter Global) (zone : List ℕ) (old new : Joining) (r : Result (Unit {0}) AuditFault)
     → FilesMeters file content (Some meters)
     → OnOk r (texts_of new.lines.items ≡ texts_of old.lines.items ++ lines_of (joins_after (option_map known_of old.known) (known_as file zone meters.items)))
@@ -111,13 +128,18 @@ pub joined : (file : List ℕ) (content : Content) (meters : Vec FiledMeter Glob
 joined file content meters zone old new (Ok done) filed lines known = record { meters = meters; filed = filed; zone = zone; lines = lines; known = known }
 joined file content meters zone old new (Err fault) filed lines known = tt
 
--- Lemmas on how the command ends.
+-- Lemmas: the command `audit` of one database file ends as its contract states.
 module _ {S : Type 0} (g : Ghosts S) (path : List ℕ) (had holds : Option (List ℕ)) where
   module _ (opens : List ℕ → Held S → Type 0) where
     pub ends_plainly : (r : Result Bool Failure) → IfOk r (AuditsFile g opens path Nothing had holds) → EndsAudit g opens path Nothing had holds (ending_of_audit r)
     ends_plainly (Ok true) audits = audits
     ends_plainly (Ok false) audits = audits
     ends_plainly (Err failure) audits = tt
+
+    pub ends_as_json : (r : Result Bool Failure) → IfOk r (AuditsFile g opens path Json had holds) → EndsAudit g opens path Json had holds (ending_of_audit r)
+    ends_as_json (Ok true) audits = audits
+    ends_as_json (Ok false) audits = audits
+    ends_as_json (Err failure) audits = tt
 
     pub ends_sealed : (r : Result Bool Failure) → IfOk r (AuditsFile g opens path Print had holds) → EndsAudit g opens path Print had holds (ending_of_audit r)
     ends_sealed (Ok true) audits = audits
@@ -130,14 +152,16 @@ module _ {S : Type 0} (g : Ghosts S) (path : List ℕ) (had holds : Option (List
     ends_against file text (Ok false) audits = record { text = text; audits = audits }
     ends_against file text (Err failure) audits = tt
 
-  -- Suppose that `all` allows every connection that `some` allows. Then an audit of a file that was
-  -- opened by `some` is also an audit of a file that was opened by `all`.
+  -- Suppose that every connection that satisfies the condition `some` also satisfies the condition
+  -- `all`. Then an audit of a file whose connection satisfies `some` is also an audit of one whose
+  -- connection satisfies `all`.
   module _ (some all : List ℕ → Held S → Type 0) (to_all : (p : List ℕ) (h : Held S) → some p h → all p h) where
     pub file_of : (seal : Sealing) (fine : Bool) → AuditsFile g some path seal had holds fine → AuditsFile g all path seal had holds fine
     file_of seal fine it = record { opened = it.opened; is_opened = to_all path it.opened it.is_opened; audits = it.audits }
 
     as_of : (seal : Sealing) (fine : Bool) → AuditsAs g some path seal had holds fine → AuditsAs g all path seal had holds fine
     as_of Nothing fine it = file_of Nothing fine it
+    as_of Json fine it = file_of Json fine it
     as_of Print fine it = file_of Print fine it
     as_of (Against file) fine it = record { text = it.text; audits = file_of (Against it.text) fine it.audits }
 
@@ -153,9 +177,12 @@ module _ {S : Type 0} (g : Ghosts S) (path : List ℕ) (had holds : Option (List
     ends_of seal (Twice file) it = tt
     ends_of seal (Failed failure) it = tt
 
--- Lemmas on the audit of several files.
+-- Lemmas: the audit of several database files prints what its contract states, and ends as this
+-- contract states.
 module _ {S : Type 0} (g : Ghosts S) where
-  -- The differences between files were printed, after no file had a difference of its own.
+  -- Suppose that no audited file differs from what the program would write, and the differences
+  -- between the files (such as a meter that does not continue) were printed. Then the contract
+  -- `AuditsSeveral` of the audit is satisfied.
   pub several_joined : (opens : List ℕ → Held S → Type 0) (paths : List (Bor (List ℕ))) (none all : Joining) (had printed holds : Option (List ℕ)) (r : Result Bool Failure)
       → none.known ≡ None → none.lines.items ≡ [] → AuditsPaths g opens paths true none all had printed true
       → IfOk r (λ joined. IsTrue joined ↔ (all.lines.items ≡ [])) → OnOk r (Appends printed holds (joined_text all.lines.items))
@@ -204,7 +231,7 @@ module _ {S : Type 0} (g : Ghosts S) where
   paths_audited opens (path ∷ paths) other so_far passed old next new had printed holds (Err failure) some one rest = tt
 
 -- Suppose that the first path of a list does not occur again. Then the list has a repeated path if
--- and only if the rest of the list has one.
+-- and only if the list without its first path has one.
 pub apart_more : (paths : List (Bor (List ℕ))) (other : Bor (List ℕ)) (b : Bool) (r : Option (Bor (List ℕ))) → 1 ≤ length paths
     → b ≡ list_any (λ (o : Bor (List ℕ)). bytes_eq o.now (get_or paths 0 other).now) (take (length paths - 1) (drop 1 paths)) → b ≡ false
     → MatchOption r (are_apart (take (length paths - 1) (drop 1 paths)) ≡ true) (λ path. are_apart (take (length paths - 1) (drop 1 paths)) ≡ false)

@@ -1,5 +1,5 @@
--- Lemmas on the report over several database files: on the files that were opened one after
--- another, and on how the command ends.
+-- Lemmas: if the command `report` over several database files ends with success, then the files
+-- were opened one after another, and their data were added to the report.
 use Rattle.std.proofs.Common.{◌≡◌, ◌⊎◌, inl, inr, ℕ, Bool, true, false, List, [], ◌∷◌, Option, Some, None, ◌≤◌, ◌-◌, length, get_or, drop, take, arith, subst, sym, ap, ◌∙◌, Result, Ok, Err, IfOk, refl}
 use Rattle.std.specs.Prelude.{unwrap_or, if◌then◌else◌}
 use Rattle.std.specs.Borrow.{Bor}
@@ -26,7 +26,8 @@ same_name text name is = by (is_name text) (sym is)
     by true is = sym (ap (λ (o : Option (List ℕ)). unwrap_or o text) is)
     by false is = absurd (cc)
 
--- If the ending `Fine` implies a claim, then `IfFine` is true of the claim and the ending.
+-- If a claim is true whenever a command ends with success (`Fine`), then `IfFine` (the claim,
+-- stated only for success) is true of any ending.
 pub if_fine : (claim : Type 0) (ending : Ending) → (ending ≡ Fine → claim) → IfFine claim ending
 if_fine claim Fine it = it refl
 if_fine claim Refused it = tt
@@ -48,7 +49,8 @@ pub no_range_is_no_success : (from till : Option (Bor (List ℕ))) (ending : End
 no_range_is_no_success from till ending it is = subst (λ (e : Ending). IsNoRange from till e) is it
 
 module _ {K : Type 0} (k : keepings.Ghosts K) {S : Type 0} (g : Ghosts S) (range : DayRange) (register : List ℕ) where
-  -- If the first file was added, and then the other files, then all files were added in order.
+  -- If the data of the first file were added to a report, and then those of the other files, then
+  -- the data of all files were added in order.
   pub paths_joined : {E : Type 0} (opens : List ℕ → Held S → Type 0) (paths : List (Bor (List ℕ))) (other : Bor (List ℕ)) (before : Option (JoinedOffice K)) (next : JoinedOffice K)
       (r : Result (Option (JoinedOffice K)) E) → 1 ≤ length paths → JoinsPath k g opens range register (get_or paths 0 other).now before next
       → IfOk r (JoinsPaths k g opens range register (take (length paths - 1) (drop 1 paths)) (Some next)) → IfOk r (JoinsPaths k g opens range register paths before)
@@ -57,8 +59,8 @@ module _ {K : Type 0} (k : keepings.Ghosts K) {S : Type 0} (g : Ghosts S) (range
       (next, one, subst (λ (ps : List (Bor (List ℕ))). JoinsPaths k g opens range register ps (Some next) after) (take_all (length (path ∷ paths) - 1) paths (omega arith)) rest)
   paths_joined opens (path ∷ paths) other before next (Err why) some one rest = tt
 
-  -- Suppose that `all` allows every connection that `some` allows. Then files that were opened by
-  -- `some` were opened by `all`.
+  -- Suppose that the condition `all` on connections allows every connection that the condition
+  -- `some` allows. Then files that were opened under `some` were also opened under `all`.
   module _ (some all : List ℕ → Held S → Type 0) (to_all : (p : List ℕ) (h : Held S) → some p h → all p h) where
     path_of : (path : List ℕ) (before : Option (JoinedOffice K)) (next : JoinedOffice K) → JoinsPath k g some range register path before next → JoinsPath k g all range register path before next
     path_of path before next it = record { opened = it.opened; is_opened = to_all path it.opened it.is_opened; joins = it.joins }
@@ -67,7 +69,8 @@ module _ {K : Type 0} (k : keepings.Ghosts K) {S : Type 0} (g : Ghosts S) (range
     paths_of [] before after it = it
     paths_of (path ∷ paths) before after it = (it.0, path_of path.now before it.0 it.1, paths_of paths (Some it.0) after it.2)
 
--- Lemmas on how the command `report` over several files ends.
+-- Lemmas: the command `report` over several files ends with success only if it printed the
+-- requested output.
 module _ {S : Type 0} (g : Ghosts S) (some all : List ℕ → Held S → Type 0) (to_all : (p : List ℕ) (h : Held S) → some p h → all p h)
     (paths : List (Bor (List ℕ))) (register : List ℕ) (words : FormWords) where
   form_of_all : (had printed : Option (List ℕ)) → PrintsForm g some paths register words had printed → PrintsForm g all paths register words had printed
@@ -86,7 +89,8 @@ module _ {S : Type 0} (g : Ghosts S) (some all : List ℕ → Held S → Type 0)
     };
   }
 
-  -- The command ends with success only if its output was printed, and then flushed.
+  -- The command `report` over several files ends with success only if its output was printed, and
+  -- then flushed.
   pub ends_files : (had printed holds : Option (List ℕ)) (ending flushed : Ending) → IfFine (PrintsForm g some paths register words had printed) ending
       → (flushed ≡ ending) ⊎ (flushed ≡ Failed Streams) → Keeps printed holds → EndsReportFiles g all paths register words had holds flushed
   ends_files had printed holds ending flushed it (inl same) keeps = if_fine _ flushed (λ fine. record {

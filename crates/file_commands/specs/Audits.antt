@@ -9,6 +9,7 @@ use Rattle.store_tables.specs.Content.{Content}
 use Rattle.table_audit.specs.FileMark.{ReportsMark}
 use Rattle.table_audit.specs.Looking.{HoldsRows}
 use Rattle.table_audit.specs.Polls.{ReportsTables as ReportsFindings}
+use Rattle.table_audit.specs.JsonTexts.{with_json}
 use Rattle.table_audit.specs.Texts.{with_findings}
 use Rattle.table_audit.specs.declared.findings.Findings.{Findings}
 use Rattle.table_seals.specs.Checking.{IsAsSealed, ReportsTables as ReportsChecked}
@@ -27,8 +28,9 @@ use Rattle.stored_files.specs.declared.ends.ending.Ending.{Ending}
 use Rattle.stored_files.specs.declared.ends.ending.Ending.TheVariants.{Fine, Refused, Failed}
 use Rattle.stored_files.specs.declared.ends.failure.Failure.{Failure}
 
--- States that an audit printed all its findings about the tables: a line for each difference, and a
--- verdict. `fine` is true if and only if there is no difference.
+-- States that an audit printed its findings: a line for each of the first differences between the
+-- tables and those that the program would write, the number of further differences, and a last
+-- line. `fine` is true if and only if there is no difference.
 pub record PrintsFindings (content : Content) (had holds : Option (List ℕ)) (fine : Bool) : Type 0
   where
     pub findings : Findings
@@ -36,11 +38,20 @@ pub record PrintsFindings (content : Content) (had holds : Option (List ℕ)) (f
     pub printed : Appends had holds (with_findings [] findings)
     pub verdict : IsTrue fine ↔ (findings.first.items ≡ [])
 
+-- States that an audit printed all its findings about the tables as JSON: an object for each
+-- difference, and a verdict. `fine` is true if and only if there is no difference.
+pub record PrintsJson (content : Content) (had holds : Option (List ℕ)) (fine : Bool) : Type 0 where
+  pub findings : Findings
+  pub reported : ReportsFindings content findings
+  pub printed : Appends had holds (with_json [] findings)
+  pub verdict : IsTrue fine ↔ (findings.first.items ≡ [])
+
 -- States that an audit found differences in the tables, and printed them.
 abbrev pub PrintsDifferences : Content → (had holds : Option (List ℕ)) → (fine : Bool) → Type 0
 PrintsDifferences content had holds fine = PrintsFindings content had holds fine × (fine ≡ false)
 
--- States that an audit found no difference in the tables.
+-- States that an audit found no difference between the tables and those that the program would
+-- write.
 pub record FindsNone (content : Content) : Type 0 where
   pub findings : Findings
   pub reported : ReportsFindings content findings
@@ -64,11 +75,20 @@ pub record PrintsChecked (content : Content) (text : List ℕ) (had holds : Opti
   pub printed : Appends had holds (checked_text checked)
   pub verdict : IsTrue fine ↔ IsAsSealed checked
 
+-- The printed text of an audit's findings, as JSON if the arguments request JSON.
+abbrev pub findings_text : Sealing → Findings → List ℕ
+findings_text sealing.Json findings = with_json [] findings
+findings_text sealing.Nothing findings = with_findings [] findings
+findings_text sealing.Print findings = with_findings [] findings
+findings_text (sealing.Against text) findings = with_findings [] findings
+
 -- States what an audit prints about the tables of one database file, and whether the audit
--- succeeds. The audit prints its findings. If a seal is requested or given, and no difference was
--- found, the audit instead prints the seal, or the result of the comparison with the given seal.
+-- succeeds. The audit prints its findings, as text or as JSON. If a seal is requested or given, and
+-- no difference was found, the audit instead prints the seal, or the result of the comparison with
+-- the given seal.
 abbrev pub Audits : Content → Sealing → (had holds : Option (List ℕ)) → (fine : Bool) → Type 0
 Audits content sealing.Nothing had holds fine = PrintsFindings content had holds fine
+Audits content sealing.Json had holds fine = PrintsJson content had holds fine
 Audits content sealing.Print had holds fine =
     PrintsDifferences content had holds fine
     ⊎ (FindsNone content × PrintsSeal content had holds fine)
@@ -76,8 +96,8 @@ Audits content (sealing.Against text) had holds fine =
     PrintsDifferences content had holds fine
     ⊎ (FindsNone content × PrintsChecked content text.now had holds fine)
 
--- States that the row of the table `meta` is that of a file of this version, and that the tables
--- were audited as `Audits` says.
+-- States that the table `meta` has the row of a database file of this program version, and that the
+-- tables were audited (`Audits`).
 pub record AuditsTables (content : Content) (seal : Sealing) (had holds : Option (List ℕ))
     (fine : Bool) : Type 0 where
   pub marked : ReportsMark content true
@@ -90,8 +110,8 @@ zone_fault opening.Zone = fault.NoText
 zone_fault opening.Store = fault.Store
 zone_fault opening.Memory = fault.Memory
 
--- The ending of the command `audit`: success if no difference was found, a refusal if there are
--- differences, or the failure.
+-- The ending of the command `audit`: success if the audit found no difference (from what the
+-- program would write, or from a given seal), a refusal if it found one, or the failure.
 abbrev pub ending_of_audit : Result Bool Failure → Ending
 ending_of_audit (Ok true) = Fine
 ending_of_audit (Ok false) = Refused
@@ -122,16 +142,17 @@ module _ {S : Type 0} (g : Ghosts S) (opens : List ℕ → Held S → Type 0) wh
       pub audits : AuditsFile path (sealing.Against text) had holds fine
 
   -- States that the database file at a path was audited as the arguments request. The argument of
-  -- `Against` is the path of the file with the seal.
+  -- `Against` (a comparison with a seal, a digest) is the path of the file with the seal.
   abbrev pub AuditsAs : (path : List ℕ) → Sealing → (had holds : Option (List ℕ)) → (fine : Bool)
       → Type 0
   AuditsAs path sealing.Nothing had holds fine = AuditsFile path sealing.Nothing had holds fine
+  AuditsAs path sealing.Json had holds fine = AuditsFile path sealing.Json had holds fine
   AuditsAs path sealing.Print had holds fine = AuditsFile path sealing.Print had holds fine
   AuditsAs path (sealing.Against file) had holds fine = AuditsAgainst path had holds fine
 
-  -- States that the command `audit` ends with success (`Fine`) only after an audit without
-  -- differences, and with a refusal only after an audit with differences. Any other ending reports
-  -- a failure.
+  -- States how the command `audit` ends: with success (`Fine`) only if the audit found no
+  -- difference (from what the program would write, or from a given seal). It ends with a refusal
+  -- only if the audit found one. Any other ending reports a failure.
   abbrev pub EndsAudit : (path : List ℕ) → Sealing → (had holds : Option (List ℕ)) → Ending → Type 0
   EndsAudit path seal had holds Fine = AuditsAs path seal had holds true
   EndsAudit path seal had holds Refused = AuditsAs path seal had holds false

@@ -10,17 +10,17 @@ use Rattle.carried_books.specs.Joining.Earlier.{kept_as, registers_in, registers
 use Rattle.stored_files.specs.declared.joins.stored.JoinedOffice.{JoinedOffice}
 use Rattle.file_commands.specs.JoinedReports.{JoinsPaths}
 
--- States that `registers` are the accounting registers that were collected from database files,
--- each with its name, its meters and its energy by day.
+-- States that `registers` are the accounting registers (named counters) that were collected from
+-- database files, each with its name, its meters and its energy by day.
 abbrev pub AreRegistersOf : Option (JoinedOffice KeptRegisters) → List EarlierRegister → Type 0
 AreRegistersOf None registers = registers ≡ []
 AreRegistersOf (Some joined) registers =
     map reported registers ≡ map kept_as (registers_in joined.kept)
 
 module _ {S : Type 0} (g : Ghosts S) (opens : List ℕ → Held S → Type 0) where
-  -- States that `registers` are the accounting registers of the database files at the given paths,
-  -- which were opened one after another. Each register has its meters and its energy by day over
-  -- all these files.
+  -- States that `registers` are the accounting registers (named counters) of the database files at
+  -- the given paths, which were opened one after another. Each register has its meters and its
+  -- energy by day over all these files.
   pub record SumsFiles (paths : List (Bor (List ℕ))) (registers : List EarlierRegister) : Type 0
     where
       pub range : DayRange

@@ -30,8 +30,8 @@ form_of words range = record {
   format = or_else words.format Text;
 }
 
--- The options of a statement. Without the corresponding command line options, the statement has
--- energies in mWh, and the text format.
+-- The options of a statement (billing report). Without the corresponding command line options, the
+-- statement has energies in mWh, and the text format.
 abbrev pub statement_of : FormWords → DayRange → StatementForm
 statement_of words range = record {
   range = range;

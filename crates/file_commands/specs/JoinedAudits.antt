@@ -21,9 +21,9 @@ use Rattle.stored_files.specs.declared.ends.ending.Ending.{Ending}
 use Rattle.stored_files.specs.declared.ends.ending.Ending.TheVariants.{Fine, Refused, Twice}
 use Rattle.file_commands.specs.Audits.{AuditsTables}
 
--- States that the meters of a file with the tables `content` were compared with those of the
--- earlier files. A line was added for each difference. The definition does not state that `zone`
--- is the time zone of the file.
+-- States that a file with the tables `content` was compared with the earlier files. A line was
+-- added to the output for each difference (in the time zone, or in a meter that does not continue).
+-- The definition does not state that `zone`, the compared time zone, is that of the file.
 pub record JoinsNext (file : List ℕ) (content : Content) (old new : Joining) : Type 0 where
   pub meters : Vec FiledMeter Global
   pub filed : FilesMeters file content (Some meters)
@@ -33,9 +33,10 @@ pub record JoinsNext (file : List ℕ) (content : Content) (old new : Joining) :
   pub known : option_map known_of new.known
       ≡ Some (after_next (option_map known_of old.known) (known_as file zone meters.items))
 
--- States that a file with the tables `content` was audited. `audited` is true if and only if no
--- difference was found in it. If there was also none in the earlier files (`so_far`), the file was
--- compared with these.
+-- States that a file with the tables `content` was audited. `audited` is true if and only if the
+-- tables do not differ from those that the program would write. Such a difference is, for example,
+-- an entry that the rules for meter entries reject. If the earlier files had no such differences
+-- either (`so_far`), the file's time zone and meters were compared with theirs (`JoinsNext`).
 pub record AuditsNext (file : List ℕ) (content : Content) (so_far : Bool) (old new : Joining)
     (had holds : Option (List ℕ)) (fine : Bool) : Type 0 where
   pub audited : Bool
@@ -49,7 +50,7 @@ are_apart [] = true
 are_apart (path ∷ paths) =
     not (list_any (λ other. bytes_eq other.now path.now) paths) && are_apart paths
 
--- States that a line was printed.
+-- States that some line of text was printed to the output.
 pub record PrintsLine (had holds : Option (List ℕ)) : Type 0 where
   pub line : List ℕ
   pub printed : Appends had holds line
@@ -69,7 +70,8 @@ module _ {S : Type 0} (g : Ghosts S) (opens : List ℕ → Held S → Type 0) wh
         → AuditsNext path content so_far old new named holds fine
 
   -- States that the files at the given paths were audited in order. `fine` is true if and only if
-  -- no difference was found in these files, and `so_far` is true.
+  -- these files and the files before them (`so_far`) do not differ from what the program would
+  -- write.
   abbrev pub AuditsPaths : (paths : List (Bor (List ℕ))) → (so_far : Bool) → (old new : Joining)
       → (had holds : Option (List ℕ)) → (fine : Bool) → Type 0
   AuditsPaths [] so_far old new had holds fine =
@@ -79,8 +81,9 @@ module _ {S : Type 0} (g : Ghosts S) (opens : List ℕ → Held S → Type 0) wh
       × AuditsPath path.now so_far old next had printed passed
       × AuditsPaths paths passed next new printed holds fine
 
-  -- States that all files were audited, and found free of differences. `joined` is true if and only
-  -- if each file also continues the earlier files. The differences between the files were printed.
+  -- States that all files were audited, and do not differ from what the program would write.
+  -- `joined` is true if and only if each file also continues the meter history of the earlier
+  -- files. The differences between the files were printed.
   pub record FindsJoined (paths : List (Bor (List ℕ))) (had holds : Option (List ℕ))
       (joined : Bool) : Type 0 where
     pub none : Joining
@@ -92,24 +95,25 @@ module _ {S : Type 0} (g : Ghosts S) (opens : List ℕ → Held S → Type 0) wh
     pub lines : Appends printed holds (joined_text all.lines.items)
     pub verdict : IsTrue joined ↔ (all.lines.items ≡ [])
 
-  -- States that all files were audited, and that at least one has differences, which were printed.
+  -- States that all files were audited, and that at least one differs from what the program would
+  -- write. The findings were printed.
   pub record FindsDifferent (paths : List (Bor (List ℕ))) (had holds : Option (List ℕ)) : Type 0
     where
       pub none : Joining
       pub all : Joining
       pub audits : AuditsPaths paths true none all had holds false
 
-  -- States when the audit of several files reports success: only if no file has differences, and
-  -- each file continues the earlier files.
+  -- States when the audit of several files reports success: only if each file is as the program
+  -- would write it, and continues the meter history of the earlier files.
   abbrev pub AuditsSeveral : (paths : List (Bor (List ℕ))) → (had holds : Option (List ℕ))
       → (fine : Bool) → Type 0
   AuditsSeveral paths had holds true = FindsJoined paths had holds true
   AuditsSeveral paths had holds false =
       FindsJoined paths had holds false ⊎ FindsDifferent paths had holds
 
-  -- States how the command `audit` over several files ends: with success (`Fine`) or with a refusal
-  -- as `AuditsSeveral` says. It ends with `Twice` only if a file was given twice. Any other ending
-  -- reports a failure.
+  -- States how the command `audit` over several files ends. It ends with success (`Fine`) or a
+  -- refusal only if the audit had this result (`AuditsSeveral`). It ends with `Twice` only if a
+  -- file was given twice. Any other ending reports a failure.
   abbrev pub EndsSeveral : (paths : List (Bor (List ℕ))) → (had holds : Option (List ℕ)) → Ending
       → Type 0
   EndsSeveral paths had holds Fine = AuditsSeveral paths had holds true

@@ -53,7 +53,8 @@ last_path [] = []
 last_path (path ∷ []) = path.now
 last_path (path ∷ next ∷ paths) = last_path (next ∷ paths)
 
--- States the claim if a command ended with success (`Fine`). States nothing for any other ending.
+-- States that a given claim is true if a command ended with success (`Fine`). States nothing for
+-- any other ending.
 abbrev pub IfFine : Type 0 → Ending → Type 0
 IfFine claim Fine = claim
 IfFine claim _ = Unit {0}
@@ -66,8 +67,8 @@ files_kept = record {
   parts = λ range. DoesNotJoin (span_of range);
 }
 
--- States what the data of a merged statement contain after files were added, and why a file cannot
--- be added.
+-- States what the data of a merged statement (billing report) contain after files were added, and
+-- why a file cannot be added.
 abbrev pub statement_kept : keepings.Ghosts JoinedStatement
 statement_kept = record { keeps = HasStated; parts = λ range. DoesNotGoOn }
 
@@ -75,8 +76,8 @@ statement_kept = record { keeps = HasStated; parts = λ range. DoesNotGoOn }
 abbrev pub itself : writers.Ghosts (Option (List ℕ))
 itself = record { contents = λ held. held }
 
--- States that, if the command ended with success, the merged report was printed and a file has the
--- accounting register.
+-- States that, if the command `report` over several files ended with success, the merged report was
+-- printed and a file has the accounting register (a named counter).
 abbrev pub ReportsOne : Option (JoinedOffice JoinedFiles) → ReportForm
     → (had holds : Option (List ℕ)) → Ending → Type 0
 ReportsOne None form had holds Fine = ⊥
@@ -85,15 +86,16 @@ ReportsOne (Some joined) form had holds Fine = IsTrue joined.kept.is_recorded
     × (ending_of status ≡ Fine)
 ReportsOne joined form had holds _ = Unit {0}
 
--- States that, if the command ended with success, the merged statement was printed.
+-- States that, if the command `report` over several files ended with success, the merged statement
+-- (billing report) was printed.
 abbrev pub StatesOne : JoinedStatement → StatementForm → (had holds : Option (List ℕ)) → Ending
     → Type 0
 StatesOne joined form had holds Fine = (status : ExitStatus)
     × StatesJoined itself joined form had holds status × (ending_of status ≡ Fine)
 StatesOne joined form had holds _ = Unit {0}
 
--- States that, if the command ended with success, the merged statement was printed and a file has
--- the accounting register.
+-- States that, if the command `report` over several files ended with success, the merged statement
+-- (billing report) was printed and a file has the accounting register (a named counter).
 abbrev pub StatesRecorded : Option (JoinedOffice JoinedStatement) → StatementForm
     → (had holds : Option (List ℕ)) → Ending → Type 0
 StatesRecorded None form had holds Fine = ⊥
@@ -103,15 +105,15 @@ StatesRecorded joined form had holds _ = Unit {0}
 
 module _ {S : Type 0} (g : Ghosts S) (opens : List ℕ → Held S → Type 0)
     (paths : List (Bor (List ℕ))) (register : List ℕ) where
-  -- States that the merged report on an accounting register, over the database files at the given
-  -- paths, was printed.
+  -- States that the merged report on an accounting register (a named counter), over the database
+  -- files at the given paths, was printed.
   pub record ReportsRegister (form : ReportForm) (had holds : Option (List ℕ)) : Type 0 where
     pub joined : Option (JoinedOffice JoinedFiles)
     pub joins : JoinsPaths files_kept g opens form.range register paths None joined
     pub reports : ReportsOne joined form had holds Fine
 
-  -- States that the merged statement on an accounting register, over the database files at the
-  -- given paths, was printed.
+  -- States that the merged statement (billing report) on an accounting register (a named counter),
+  -- over the database files at the given paths, was printed.
   pub record StatesRegister (form : StatementForm) (had holds : Option (List ℕ)) : Type 0 where
     pub joined : Option (JoinedOffice JoinedStatement)
     pub joins : JoinsPaths statement_kept g opens form.range register paths None joined

@@ -9,7 +9,7 @@ ghost use Rattle.table_audit.specs.Looking.{HoldsRows, HoldsTables, OnlyLooks};
 ghost use Rattle.table_seals.specs.JoinTexts.{joined_text};
 ghost use Rattle.file_commands.specs.Audits.{Audits, AuditsFile, AuditsTables, zone_fault};
 ghost use Rattle.command_words.specs.declared.line.Sealing.TheVariants.{Against};
-ghost use Rattle.file_commands.specs.Audits.{EndsAudit, PrintsChecked, PrintsSeal, ending_of_audit};
+ghost use Rattle.file_commands.specs.Audits.{EndsAudit, PrintsChecked, PrintsSeal, ending_of_audit, findings_text};
 ghost use Rattle.file_commands.specs.JoinedAudits.{AuditsNext, AuditsPath, AuditsPaths};
 ghost use Rattle.file_commands.specs.JoinedAudits.{AuditsSeveral, EndsSeveral, JoinsNext, PrintsLine};
 ghost use Rattle.file_commands.specs.JoinedAudits.{are_apart};
@@ -28,9 +28,10 @@ use std::str::from_utf8;
 use stored_files::{
     AuditFault, Databases, Ending, Failure, Joining, Named, audit_stored, check_mark,
     check_stored_seal, hold_to_earlier, meters_stored, read_zone_text, seal_stored, write_audit,
-    write_checked, write_joins, write_seal,
+    write_checked, write_joins, write_json_audit, write_seal,
 };
 use sun_points::Sink;
+use table_audit::Findings;
 
 /// The maximum length of a seal (a digest of a file's past) that the command `audit` reads, in
 /// bytes. A seal of 4,096 meters, each with a thousand voided (cancelled) entries, is shorter.
@@ -75,6 +76,25 @@ fn hold_to<S: Alter, W: Write>(
     write_checked(alloc, &checked, output)
 }
 
+// Prints the findings of an audit, as text or as JSON. Returns whether there are none.
+fn print_findings<W: Write>(
+    alloc: Global,
+    findings: &Findings,
+    seal: Sealing<'_>,
+    output: &mut W,
+) -> Result<bool, AuditFault>
+    ensures fine { IfOk result (λ fine. IsTrue fine ↔ (findings.now.first.items ≡ [])) }
+    ensures reported { OnOk result (Appends (W.contents output.old) (W.contents output.new)
+        (findings_text seal.entry findings.now)) }
+{
+    match seal {
+        Sealing::Json => write_json_audit(alloc, findings, output),
+        Sealing::Nothing | Sealing::Print | Sealing::Against(_) => {
+            write_audit(alloc, findings, output)
+        }
+    }
+}
+
 // Audits the tables of a database whose row of `meta` was checked.
 fn audit_marked<S: Alter, W: Write>(
     alloc: Global,
@@ -91,18 +111,19 @@ fn audit_marked<S: Alter, W: Write>(
 {
     let findings = audit_stored(alloc, connection)?;
     if !findings.is_fine() {
-        return write_audit(alloc, &findings, output);
+        return print_findings(alloc, &findings, seal, output);
     }
     match seal {
         Sealing::Nothing => write_audit(alloc, &findings, output),
+        Sealing::Json => write_json_audit(alloc, &findings, output),
         Sealing::Print => print_seal(alloc, connection, output),
         Sealing::Against(text) => hold_to(alloc, connection, text, output),
     }
 }
 
-// Audits the tables of a database. If they follow the rules, also prints a seal (a digest of the
-// tables) or compares the tables with a seal, as `seal` requests. Returns whether the audit and the
-// comparison found no discrepancy.
+// Audits the tables of a database. If they follow the rules for meter entries and polls, also
+// prints a seal (a digest of the tables) or compares the tables with a seal, as `seal` requests.
+// Returns whether the audit and the comparison found no discrepancy.
 fn audit_over<S: Alter, W: Write>(
     alloc: Global,
     connection: &mut Connection<S>,
@@ -230,8 +251,8 @@ fn audit_against<'a, D: Databases, W: Write>(
 }
 
 /// Audits a database file: checks that its rows follow the rules for meter entries and polls. If
-/// requested, also prints a seal (a digest of the rows), or compares the rows with a seal. Writes
-/// nothing to the database file.
+/// requested, prints the result as JSON, also prints a seal (a digest of the rows), or compares the
+/// rows with a seal. Writes nothing to the database file.
 pub fn audit<'a, D: OfficeFiles, W: Write>(
     rt: &HostRuntime,
     files: &D,
@@ -246,6 +267,7 @@ pub fn audit<'a, D: OfficeFiles, W: Write>(
     match seal {
         Sealing::Against(file) => audit_against(rt, &copies, path, file, output),
         Sealing::Nothing => ended(audit_in(rt, &copies, path, Sealing::Nothing, output)),
+        Sealing::Json => ended(audit_in(rt, &copies, path, Sealing::Json, output)),
         Sealing::Print => ended(audit_in(rt, &copies, path, Sealing::Print, output)),
     }
 }
@@ -264,8 +286,8 @@ fn zone_fault(fault: OpenFault) -> AuditFault
     }
 }
 
-// Checks whether a database file continues the earlier files: its meters must begin with their last
-// entries in those files.
+// Checks whether a database file continues the meter history of the earlier files: the file's
+// meters must begin with their last entries in the earlier files.
 fn join_next<'a, S: Alter>(
     alloc: Global,
     connection: &mut Connection<S>,
@@ -286,9 +308,10 @@ fn join_next<'a, S: Alter>(
     }
 }
 
-// Audits the tables of one of several successive database files. If this file and all earlier files
-// (`so_far`) follow the rules, also checks whether this file continues the earlier files. Returns
-// whether all files audited until now follow the rules.
+// Audits the tables of one of several successive database files. If neither this file nor an
+// earlier one (`so_far`) differs from what the program would write, also checks whether this file
+// continues their meter history. Returns whether none of the files audited until now has such a
+// difference.
 fn audit_next<'a, S: Alter, W: Write>(
     alloc: Global,
     connection: &mut Connection<S>,
@@ -345,8 +368,8 @@ fn audit_file<'a, D: Databases, W: Write>(
     }
 }
 
-// Audits the files at the given paths in order. Returns whether no difference was found in them or
-// in the files before (`so_far`).
+// Audits the files at the given paths in order. Returns whether they and the files before
+// (`so_far`) have no difference from what the program would write.
 fn audit_paths<'a, D: Databases, W: Write>(
     rt: &HostRuntime,
     databases: &D,
@@ -367,8 +390,9 @@ fn audit_paths<'a, D: Databases, W: Write>(
     }
 }
 
-// Prints the differences between files that have no differences in themselves. Returns whether
-// there are none.
+// Prints the differences between audited files: another time zone, or a meter that a later file
+// does not continue. The function is called only if the audit of each single file found no
+// difference. Returns whether there are no differences between the files.
 fn print_joins<W: Write>(
     alloc: Global,
     joining: &Joining<'_>,
@@ -385,8 +409,8 @@ fn print_joins<W: Write>(
     }
 }
 
-// Audits the files at the given paths in order. Returns whether all files follow the rules, and
-// each file continues the previous file.
+// Audits the files at the given paths in order. Returns whether no file differs from what the
+// program would write, and each file continues the meter history of the previous file.
 fn audit_files<'a, D: Databases, W: Write>(
     rt: &HostRuntime,
     databases: &D,
@@ -404,14 +428,15 @@ fn audit_files<'a, D: Databases, W: Write>(
     }
 }
 
-// Returns whether a path is in a list.
+// Returns whether the path of a database file equals a path in the list `paths`.
 fn is_in(path: &str, paths: &[&str]) -> bool
     ensures { result ≡ list_any (λ other. bytes_eq other.now path.now) paths.now }
 {
     paths.iter().any(|other| *other == path)
 }
 
-// Returns the first path that occurs again later in a list, or `None`.
+// Returns the first path that occurs again later in a list, or `None` if all paths of the list are
+// different.
 fn twice<'a>(paths: &[&'a str]) -> Option<&'a str>
     ensures { MatchOption result (are_apart paths.now ≡ true)
         (λ path. are_apart paths.now ≡ false) }
@@ -429,7 +454,7 @@ fn twice<'a>(paths: &[&'a str]) -> Option<&'a str>
 }
 
 /// Audits successive database files, the oldest first, and checks whether each file continues the
-/// previous file. Writes nothing to the files, and opens one at a time.
+/// meter history of the previous file. Writes nothing to the files, and opens one at a time.
 pub fn audit_several<'a, D: OfficeFiles, W: Write>(
     rt: &HostRuntime,
     files: &D,

@@ -39,8 +39,8 @@ struct Rollover<'a> {
 }
 
 impl<'a> Rollover<'a> {
-    // Returns why the rollover failed, with the path of the file in which the error occurred: the
-    // old file or the new one.
+    // Returns why a rollover into a new database file failed, with the path of the file in which
+    // the error occurred: the old file or the new one.
     fn not_carried(self, fault: CarryFault) -> NotCarried<'a> {
         let Rollover { from, to, .. } = self;
         match fault {
@@ -50,8 +50,8 @@ impl<'a> Rollover<'a> {
         }
     }
 
-    // Returns why the rollover failed: the old file could not be opened, the new file could not be
-    // created, or an error occurred in one of them.
+    // Returns why a rollover into a new database file failed: the old file could not be opened, the
+    // new file could not be created, or an error occurred in one of them.
     fn not_ended(self, end: CarryEnd) -> NotCarried<'a> {
         let Rollover { from, to, .. } = self;
         match end {
@@ -64,7 +64,8 @@ impl<'a> Rollover<'a> {
     }
 }
 
-// Rolls a database over into a new file with a temporary name. Returns the number of meters.
+// Rolls a database over into a new file with a temporary name. Returns the number of meters that
+// continue in the new file.
 fn carry_into_part<'a, D: Databases>(
     rt: &HostRuntime,
     databases: &D,
@@ -86,8 +87,8 @@ fn carry_into_part<'a, D: Databases>(
     }
 }
 
-// Completes a rollover: merges the new file's log into the file, and renames the file to its final
-// name.
+// Completes a rollover into a new database file: merges the new file's log into the file, and
+// renames the file to its final name.
 fn finish<'a>(rt: &HostRuntime, to: &'a str, part: &Pair) -> Result<(), Failure<'a>> {
     match make_whole(rt, part.file.as_str()) {
         Ok(()) => {}
@@ -100,7 +101,7 @@ fn finish<'a>(rt: &HostRuntime, to: &'a str, part: &Pair) -> Result<(), Failure<
 }
 
 // Rolls a database over into a new file, and renames that file to its final name. Returns the
-// number of meters.
+// number of meters that continue in the new file.
 fn carry_whole<'a, D: Databases>(
     rt: &HostRuntime,
     databases: &D,
@@ -121,11 +122,11 @@ fn carry_whole<'a, D: Databases>(
 }
 
 /// Rolls an open database over into a new file, in which its meters continue from their last
-/// entries. Returns the number of meters.
+/// entries. Returns the number of these meters.
 ///
-/// On failure, removes the incomplete file. If only the sync of the folder fails, the new file
-/// remains. First removes an incomplete file that an interrupted call left. This is safe, because
-/// no other process has the old file open.
+/// If the rollover into a new database file fails, removes the incomplete new file. If only the
+/// sync of the folder fails, the new file remains. First removes an incomplete file that an
+/// interrupted rollover left. This is safe, because no other process has the old file open.
 pub fn carry_open<'a, D: Databases>(
     rt: &HostRuntime,
     databases: &D,
@@ -183,7 +184,7 @@ fn write_not_yet<W: Write>(errors: &mut W, path: &str, meter: &Name) -> io::Resu
     )
 }
 
-/// Writes the reason why a file could not be rolled over into a new file to `errors`.
+/// Writes to `errors` the reason why a file could not be rolled over into a new file.
 pub fn write_why<W: Write>(errors: &mut W, why: &NotCarried<'_>) -> io::Result<()> {
     match why {
         NotCarried::Failed(failure) => write!(errors, "sunreg: {failure}\n"),

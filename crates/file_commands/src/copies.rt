@@ -87,8 +87,8 @@ fn copy_file(rt: &HostRuntime, from: &str, to: &str) -> io::Result<()> {
 }
 
 // Copies a database file and then its write-ahead log. Returns whether the log's header stayed the
-// same during the copy. If so, no checkpoint ran, and the two copies belong together. The copied
-// log includes commits that another process wrote during the copy.
+// same during the copy. If the header stayed the same, no checkpoint ran, and the two copies belong
+// together. The copied log includes commits that another process wrote during the copy.
 fn copy_pair(rt: &HostRuntime, source: &Pair, part: &Pair) -> io::Result<bool> {
     let before = header_of(rt, source.log.as_str())?;
     copy_file(rt, source.file.as_str(), part.file.as_str())?;
@@ -124,9 +124,9 @@ fn is_sound(rt: &HostRuntime, copy: &Pair) -> io::Result<bool> {
     }
 }
 
-/// Copies a database file and its log like [`copy_settled`]. Also repeats the copy if the copied
-/// log has lost commits. If another process writes during the copy, the copied log can have later
-/// frames without earlier frames.
+/// Copies a database file and its write-ahead log. Repeats the copy if a checkpoint ran during it,
+/// or if the copied log has lost commits. If another process writes during the copy, the copied log
+/// can have later frames without earlier frames.
 pub(crate) fn copy_sound(rt: &HostRuntime, source: &Pair, copy: &Pair) -> io::Result<bool> {
     for _ in 0..TRIES {
         if copy_settled(rt, source, copy)? && is_sound(rt, copy)? {
@@ -180,7 +180,8 @@ pub(crate) fn open_copy(
         Ok(false) => Err(FileFault::Busy),
         Err(_) => Err(FileFault::Unreadable),
     };
-    // Unix keeps an open file until it is closed, so the names of the copy can be removed now.
+    // Unix keeps an open file until it is closed, so the names of the temporary copy of the
+    // database can be removed now.
     remove(rt, &copy);
     opened
 }

@@ -11,12 +11,12 @@ use office_events::Name;
 use std::io::Write;
 use stored_files::{Databases, Ending, Failure, JoinedOffice};
 
-// A value for a parameter that requires the name of an accounting register. The name has no effect,
-// because the energy of all registers is read.
+// A value for a parameter that requires the name of an accounting register (a named counter). The
+// name has no effect, because the energy of all registers is read.
 const ANY: &[u8] = b"any";
 
-// Writes why a file could not be added to the sums of the earlier files. Returns how the command
-// ends.
+// Writes why a file could not be added to the energy sums of the earlier files. Returns how the
+// command ends.
 fn end_unjoined<'a, E: Write>(errors: &mut E, why: NotJoined<'a>) -> Ending<'a> {
     match why {
         NotJoined::Failed(failure) => Ending::Failed(failure),
@@ -28,8 +28,8 @@ fn end_unjoined<'a, E: Write>(errors: &mut E, why: NotJoined<'a>) -> Ending<'a> 
     }
 }
 
-// Returns the accounting registers of the earlier database files, each with its energy summed over
-// these files.
+// Returns the accounting registers (named counters) of the earlier database files, each with its
+// energy summed over these files.
 fn registers_of<'a>(joined: JoinedOffice<KeptRegisters>) -> Result<Vec<EarlierRegister>, Ending<'a>>
     ensures { IfOk result (λ registers. AreRegistersOf (Some joined) registers.items) }
 {
@@ -40,7 +40,8 @@ fn registers_of<'a>(joined: JoinedOffice<KeptRegisters>) -> Result<Vec<EarlierRe
     }
 }
 
-// Returns a copy of the data of the earlier files, with which the current file can be compared.
+// Returns a copy of the data of the earlier database files (time zone and accounting registers
+// (named energy counters)), against which the current file is checked.
 fn compared_of<'a>(
     rt: &HostRuntime,
     joined: &JoinedOffice<KeptRegisters>,
@@ -54,7 +55,7 @@ fn compared_of<'a>(
     }
 }
 
-// Checks that the current database file continues the earlier files.
+// Checks that the current database file continues the meter history of the earlier files.
 fn hold<'a, D: Databases, E: Write>(
     rt: &HostRuntime,
     databases: &D,
@@ -105,9 +106,9 @@ fn say_earlier<E: Write>(errors: &mut E, current: &str, paths: &[&str]) {
 }
 
 /// Returns the energy of all accounting registers (named counters) in earlier files, the oldest
-/// first. Fails if the current file, which may be new, does not continue the earlier files. Only
-/// reads the files, one at a time. Writes the number of files, or the reason of the failure, to
-/// `errors`.
+/// first. Fails if the current file, which may be new, does not continue the meter history of the
+/// earlier files. Only reads the files, one at a time. Writes the number of files, or the reason of
+/// the failure, to `errors`.
 pub fn earlier_registers<'a, D: OfficeFiles, E: Write>(
     rt: &HostRuntime,
     files: &D,

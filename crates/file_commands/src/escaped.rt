@@ -1,4 +1,5 @@
-//! Makes output on standard error safe for a terminal.
+//! Makes output on standard error safe for a terminal: control bytes, except line feeds, are
+//! written as escapes such as `\x1b`.
 use std::io::{self, Write};
 
 /// A writer that escapes all control bytes except line feeds, for example as `\x1b`. A name from a
@@ -8,12 +9,14 @@ pub struct Escaped<W: Write + Drop> {
     output: W,
 }
 
-// Returns whether a byte is written without an escape.
+// Returns whether a byte is written to the output without an escape. Only control characters other
+// than the line feed are escaped.
 fn is_plain(byte: u8) -> bool {
     byte == b'\n' || !byte.is_ascii_control()
 }
 
-// Returns the bytes before the first byte that must be escaped.
+// Returns the bytes before the first control character other than a line break, which must be
+// escaped in printed text.
 fn plain_front(bytes: &[u8]) -> &[u8] {
     match bytes.iter().position(|byte| !is_plain(*byte)) {
         Some(count) => bytes.get(..count).unwrap_or(bytes),

@@ -6,10 +6,10 @@ use stored_files::{Databases, FileConnection, FileFault, make_file, open_file};
 /// How a database file is opened.
 #[derive(Clone, Copy)]
 pub enum Opening {
-    /// Opens the file itself, for reading and writing.
+    /// Opens the database file itself (not a temporary copy), for reading and writing.
     InPlace,
-    /// Opens the file itself, or a temporary copy if the operating system refuses to open the file
-    /// for writing.
+    /// Opens the database file itself, or a temporary copy if the operating system refuses to open
+    /// the file for writing.
     ToRead,
     /// Opens a temporary copy of the file. The file and its folder are not affected.
     Copied,
@@ -17,14 +17,15 @@ pub enum Opening {
 
 /// A way to open database files. Each command chooses how its files are opened.
 ///
-/// Commands are generic over this trait for the sake of the proofs: the prover needs half a minute
-/// for each call that uses the files of the operating system. Only the program's outermost call
-/// names the system's files.
+/// Commands are generic over the trait `OfficeFiles` (a way to open database files) for the sake of
+/// the proofs: the prover needs half a minute for each call that uses the files of the operating
+/// system. Only the program's outermost call names the system's files.
 pub trait OfficeFiles: Databases + Copy {
     ghost use Rattle.std.specs.Prelude.{ℕ, List};
     ghost use Rattle.sqlite.specs.Held.{Held};
 
-    /// Returns access to the same files, but with each file opened as `opening` says.
+    /// Returns an object that opens the same files as this object does. It opens each file in the
+    /// way that `opening` says (such as the file itself, or a copy).
     fn opened(&self, opening: Opening) -> Self
         ensures { (path : List ℕ) (connection : Held Self.Store) → Self.opens result path connection
             → Self.opens self.now path connection };

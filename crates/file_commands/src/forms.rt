@@ -53,10 +53,12 @@ pub fn statement_of(words: &FormWords<'_>, range: DayRange) -> StatementForm
     }
 }
 
-/// What the command `report` prints about one database file.
+/// What the command `report` prints about one database file: an energy report or a statement
+/// (billing report), with its options.
 #[derive(Clone, Copy)]
 pub enum Wanted {
-    /// The default report: all days, in mWh, as text. No option requests another form.
+    /// The default report: all days, in mWh, as text. No option requests another range, period,
+    /// unit or format.
     Plain,
     Report(ReportForm),
     Statement(StatementForm),

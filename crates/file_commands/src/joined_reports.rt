@@ -27,7 +27,8 @@ use stored_files::{
     Databases, Ending, Failure, JoinFault, JoinedOffice, Named, ending_of, join_stored,
 };
 
-// The advice that is printed if the given database files do not continue each other.
+// The advice that is printed if a given database file does not continue the meter history of the
+// files before it.
 const REMEDY: &str =
     "name the files oldest first, each carried from the one before, and void what the older one booked after the carry";
 
@@ -66,7 +67,7 @@ fn say_apart<E: Write>(errors: &mut E, before: &str, path: &str, apart: &Apart) 
     );
 }
 
-// Reports the reason why a database file does not continue the earlier files.
+// Reports the reason why a database file does not continue the meter history of the earlier files.
 fn say_unjoined<E: Write>(errors: &mut E, before: &str, path: &str, why: &Unjoined) {
     if let Unjoined::Apart(apart) = why {
         return say_apart(errors, before, path, apart);
@@ -107,13 +108,14 @@ pub(crate) enum NotJoined<'a> {
     Failed(Failure<'a>),
     /// The store in the file at `path` failed, or memory ran out.
     Refused { path: &'a str, why: Refusal },
-    /// The file does not continue the earlier files. The program has already reported the reason.
+    /// The file does not continue the meter history of the earlier files. The program has already
+    /// reported the reason.
     Apart,
 }
 
 // Returns the reason `NotJoined` for the fault that occurred when the file at `path` could not be
-// added to a report over several files. If the file does not continue the earlier files, also
-// writes the reason to `errors`.
+// added to a report over several files. If the file does not continue the meter history of the
+// earlier files, also writes the reason to `errors`.
 fn not_joined<'a, E: Write>(
     errors: &mut E,
     before: &str,
@@ -135,7 +137,7 @@ fn not_joined<'a, E: Write>(
 }
 
 /// Adds the data of one database file to a report over several files. If the file does not continue
-/// the earlier files, writes the reason to `errors`.
+/// the meter history of the earlier files, writes the reason to `errors`.
 pub(crate) fn join_in<'a, D: Databases, K: Keeping, E: Write>(
     rt: &HostRuntime,
     databases: &D,
@@ -160,8 +162,8 @@ pub(crate) fn join_in<'a, D: Databases, K: Keeping, E: Write>(
 }
 
 /// Adds the data of several files to a report, in order. `before` is the name of the file before
-/// the first of them. Opens one file at a time. If a file does not continue the earlier files,
-/// writes the reason to `errors`.
+/// the first of them. Opens one file at a time. If a file does not continue the meter history of
+/// the earlier files, writes the reason to `errors`.
 pub(crate) fn join_paths<'a, D: Databases, K: Keeping, E: Write>(
     rt: &HostRuntime,
     databases: &D,
@@ -372,7 +374,8 @@ fn report_paths<'a, D: Databases, W: Write>(
     }
 }
 
-// Flushes the output of a command that ended as `ending` says. If this fails, the command failed.
+// Flushes the output of a command that ended as `ending` says. If flushing fails, the command
+// failed.
 fn flushed<'a, W: Write>(ending: Ending<'a>, output: &mut W) -> Ending<'a>
     ensures ending { (result ≡ ending.entry) ⊎ (result ≡ Failed Streams) }
     ensures output { Keeps (W.contents output.old) (W.contents output.new) }
@@ -383,8 +386,9 @@ fn flushed<'a, W: Write>(ending: Ending<'a>, output: &mut W) -> Ending<'a>
     }
 }
 
-/// Prints the energy of an accounting register (a named counter of a device), or the statement of
-/// its meters, and flushes the output. Merges several successive database files, the oldest first.
+/// Prints the energy of an accounting register (a named counter of a device), or the statement
+/// (billing report) of its meters, and flushes the output. Merges several successive database
+/// files, the oldest first.
 pub fn report_files<'a, D: OfficeFiles, W: Write>(
     rt: &HostRuntime,
     files: &D,

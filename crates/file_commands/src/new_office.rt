@@ -12,7 +12,8 @@ use stored_files::{
     length_of, log_of, real_path,
 };
 
-// Returns why no database can be created in a file that is not empty.
+// Returns the failure to report if no new database can be created at a path, because the file there
+// is not empty.
 fn why_occupied<'a, D: Databases>(databases: &D, path: &'a str) -> Failure<'a> {
     match databases.make(path) {
         Ok(connection) if is_bare(&connection) => Failure::Occupied { path },

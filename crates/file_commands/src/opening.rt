@@ -34,8 +34,8 @@ fn say_opening<E: Write>(rt: &HostRuntime, errors: &mut E, path: &str, bytes: u6
     }
 }
 
-/// Opens the database at a path. Reports a missing log, and fails if a log exists without its
-/// database file.
+/// Opens the database at a path. Reports on the standard error output if the file's write-ahead log
+/// is missing. Fails if a log exists without its database file.
 pub fn open_in<'a, D: Databases>(
     rt: &HostRuntime,
     databases: &D,
@@ -47,8 +47,8 @@ pub fn open_in<'a, D: Databases>(
     open_reporting(rt, databases, path, false, &mut errors)
 }
 
-/// Opens the database at a path like [`open_in`], but writes reports to `errors`. If the file is
-/// new, does not report that its log is missing.
+/// Opens the database at a path. Fails if a log exists without its database file. Reports to
+/// `errors` that the log is missing, unless the file is new (`is_new`).
 pub(crate) fn open_reporting<'a, D: Databases, E: Write>(
     rt: &HostRuntime,
     databases: &D,

@@ -216,23 +216,25 @@ fn link_name(rt: &HostRuntime, part: &str, to: &str) -> io::Result<()> {
     sync_folder(rt, to)
 }
 
-/// Creates an empty log beside a new file, so that a later loss of the log is noticed. Errors are
-/// ignored, because nothing is lost without the empty log.
+/// Creates an empty write-ahead log beside a new database file. If the log is lost later, opening
+/// the file then reports that it is missing. Errors of creating the empty log are ignored, because
+/// it has no data.
 pub(crate) fn make_empty_log(rt: &HostRuntime, to: &str) {
     if let Ok(log) = format!(in rt.alloc(); "{to}-wal") {
         let _made = make_empty(rt, log.as_str());
     }
 }
 
-// Removes the merged log of an incomplete file, and renames the file to its final name.
+// Removes the write-ahead log of an incomplete database file, after the log was merged into the
+// file. Then renames the file to its final name.
 fn name_part(rt: &HostRuntime, to: &str, pair: &Pair) -> io::Result<()> {
     fs::remove_file(rt, pair.log.as_str())?;
     link_name(rt, pair.file.as_str(), to)
 }
 
-/// Renames a complete file to its final name. The file's log must be merged. Fails if the final
-/// name already exists. May also fail after the renaming, for example if the folder cannot be
-/// synced.
+/// Renames a complete file to its final name. The file's log must already be merged into the file.
+/// Fails if the final name already exists. May also fail after the renaming, for example if the
+/// folder cannot be synced.
 pub(crate) fn finish_part<'a>(
     rt: &HostRuntime,
     to: &'a str,

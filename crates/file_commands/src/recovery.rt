@@ -71,8 +71,9 @@ fn fill_part<'a>(
     }
 }
 
-// Audits the recovered database, and returns whether its rows follow the rules. If they do, prints
-// a report on the records, otherwise the discrepancies.
+// Audits the recovered database, and returns whether its rows follow the rules for meter entries
+// and polls. If they do, prints a report on the records, otherwise the differences that the audit
+// found.
 fn report_over<D: Databases>(
     rt: &HostRuntime,
     mut connection: Connection<D::Store>,
@@ -90,8 +91,8 @@ fn report_over<D: Databases>(
     Ok(true)
 }
 
-// Audits the recovered file and prints a report. If the audit finds no discrepancy, renames the
-// file to its final name.
+// Audits the recovered file and prints a report. If the audit finds no difference from what the
+// program would write, renames the file to its final name.
 fn finish<'a, D: OfficeFiles>(
     rt: &HostRuntime,
     files: &D,

@@ -1,6 +1,6 @@
 //! Runs the golden tests of HTTP below the folder that the first argument names, by default the
 //! working directory. A golden test has HTTP requests and their expected responses. The program
-//! reports each test that differs, and at the end how many tests agree.
+//! reports each test that differs, and at the end how many tests passed.
 #![tactic(auto)]
 
 mod comparing;

@@ -12,8 +12,8 @@ use std::alloc::{AllocError, Global};
 // The host names that requests may use, as if the option `--host-name` had added them.
 static NAMES: [&str; 1] = ["office.example"];
 
-// The text that golden tests expect if the command fails or sends no response. It follows the bytes
-// that were sent, if any.
+// The text that golden tests expect if the command `serve` or `run` fails or sends no response. It
+// follows the bytes that were sent, if any.
 static NO_REPLY: &[u8] = b"no reply";
 
 /// Appends the response of `sunreg serve` to a request that arrives in chunks of `piece` bytes.

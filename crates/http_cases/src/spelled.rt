@@ -1,4 +1,5 @@
-//! Decodes the requests of golden tests.
+//! Decodes HTTP requests from the texts of golden tests (tests that compare responses with recorded
+//! ones).
 use std::alloc::{AllocError, Global};
 
 /// Decodes a request from the text of a golden test. Each line is sent with CR LF at its end, or

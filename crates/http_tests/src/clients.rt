@@ -137,8 +137,8 @@ fn read_all(alloc: Global, mut stream: TcpStream) -> Result<Vec<u8>, Fail> {
 }
 
 // A test case: a client's HTTP request and the expected response. `most` is the limit in bytes for
-// stored commands, and `kept` is the number of bytes already stored. `energy` is the meter's energy
-// in mWh, if the request closes the meter.
+// kept requests (accepted commands stored with their responses), and `kept` is the number of bytes
+// already stored. `energy` is the meter's energy in mWh, if the request closes the meter.
 struct Client {
     are_there: bool,
     most: Option<u64>,
@@ -149,9 +149,10 @@ struct Client {
     energy: Option<u64>,
 }
 
-// Returns whether the port serves a client as expected. If the limit for stored commands was
-// reached, the port must report this exactly once. If the database files are missing after a
-// command, the port must report this too.
+// Returns whether the HTTP port serves a client as the client's test case states. If the limit for
+// kept requests (accepted commands stored with their responses) was reached, the port must report
+// this exactly once. If the database files are missing after a command, the port must report this
+// too.
 fn serves(
     rt: &HostRuntime,
     listener: TcpListener,
@@ -170,7 +171,7 @@ fn serves(
     Ok(is_reported && !(client.are_there && is_busy))
 }
 
-// Returns the response that a client gets.
+// Returns the response that a client of the HTTP port gets.
 fn replied(
     rt: &HostRuntime,
     client: &Client,
@@ -201,7 +202,8 @@ const UNAVAILABLE: &[u8] =
 
 // Test cases with one client each. The HTTP request `REQUEST` has 170 bytes.
 static CLIENTS: [Client; 4] = [
-    // The limit for stored commands leaves room for the command.
+    // The limit for kept requests (accepted commands stored with their responses) leaves room for
+    // the client's command.
     Client {
         are_there: true,
         most: Some(170),
@@ -211,7 +213,8 @@ static CLIENTS: [Client; 4] = [
         reply: EXCHANGED,
         energy: Some(300_000),
     },
-    // The limit for stored commands leaves no room for the command, which begins with empty lines.
+    // The limit for kept requests (accepted commands stored with their responses) leaves no room
+    // for the client's command, which begins with empty lines.
     Client {
         are_there: true,
         most: Some(300),
@@ -232,7 +235,8 @@ static CLIENTS: [Client; 4] = [
         reply: UNAVAILABLE,
         energy: Some(300_000),
     },
-    // The database files are missing, which a query does not check.
+    // Test case: the database files are missing, and the request is a query. The server answers the
+    // query, because only commands require that the files exist.
     Client {
         are_there: false,
         most: None,
@@ -244,8 +248,8 @@ static CLIENTS: [Client; 4] = [
     },
 ];
 
-// Checks that a command is acknowledged only if the limit for stored commands allows the command
-// and the database files exist.
+// Checks that a command is acknowledged only if the database files exist and the limit for kept
+// requests (accepted commands stored with their responses) leaves room for the command.
 #[test]
 fn clients_have_their_replies(rt: HostRuntime) -> Result<(), Fail> {
     let earlier = EarlierFiles {
@@ -270,8 +274,9 @@ static GET: &[u8] = b"GET /meters/m1 HTTP/1.1\r\n\r\n";
 // A command of 28 bytes, including the empty line before its head.
 static POST: &[u8] = b"\r\nPOST /devices HTTP/1.1\r\n\r\n";
 
-// An executed command counts toward the limit for stored commands. A query, a refused command and
-// an incomplete command do not count. Without a limit there is always room.
+// An executed command counts toward the limit for kept requests (accepted commands stored with
+// their responses). A query, a refused command and an incomplete command do not count. Without a
+// limit there is always room.
 #[test]
 fn commands_that_acted_take_room(rt: HostRuntime) {
     let refused = b"HTTP/1.1 409 Conflict"
@@ -312,7 +317,8 @@ fn written(rt: &HostRuntime, outbox: &mut Outbox) -> Result<Vec<u8>, Fail> {
     read_all(rt.alloc(), listener.accept()?.0)
 }
 
-// The bytes in an output buffer are written once. Bytes that are added later replace them.
+// The bytes in the output buffer of an HTTP client are written to the connection once. Bytes that
+// are added afterwards replace the written bytes in the buffer.
 #[test]
 fn bytes_that_are_put_are_written_once(rt: HostRuntime) -> Result<(), Fail> {
     let mut empty = Outbox::empty(rt.alloc());
@@ -331,8 +337,9 @@ fn bytes_that_are_put_are_written_once(rt: HostRuntime) -> Result<(), Fail> {
     Ok(())
 }
 
-// Each error of a socket means one of three actions: wait, retry, or end the connection. The
-// milliseconds of the monotonic clock are exact.
+// Each error of an HTTP client's socket means one of three actions: wait, retry, or end the
+// connection. The test also checks that a clock reading of whole seconds is converted exactly to
+// milliseconds.
 #[test]
 fn errors_of_sockets_have_a_meaning(rt: HostRuntime) {
     assert!(rt; went_by(ErrorKind::WouldBlock) == Went::Waits);

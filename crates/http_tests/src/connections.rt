@@ -187,7 +187,8 @@ fn serves(
     }
 }
 
-// Returns whether the clients get their expected responses, and the meter is exchanged once.
+// Returns whether the clients get their expected responses, and the meter `m1` is exchanged for the
+// meter `m2` exactly once.
 fn are_served(
     rt: &HostRuntime,
     office: &mut Office<ListBooks>,
@@ -204,7 +205,8 @@ fn are_served(
     are_replied(rt.alloc(), &mut streams, clients)
 }
 
-// Clients are served one after another. A client that fails does not affect other clients.
+// The HTTP server serves its clients one after another. A client whose connection fails does not
+// affect the other clients.
 #[test]
 fn clients_are_served(rt: HostRuntime) -> Result<(), Fail> {
     let served: [(&str, &[Client], Option<u64>); 4] = [

@@ -19,8 +19,8 @@ fn days_of(rt: &impl Abort, alloc: Global, rows: &[Share]) -> EarlierDays {
     EarlierDays::new(days)
 }
 
-/// Returns an accounting register (a named counter) of earlier database files, with its meters and
-/// quarter hours.
+/// Returns an accounting register (a named counter) of earlier database files, built from the given
+/// name, meters and interval rows (energies of quarter hours).
 pub(crate) fn earlier_register(
     rt: &impl Abort,
     alloc: Global,

@@ -9,8 +9,8 @@ use office_events::{Device, Register};
 use office_program::{NamedFiles, RoundFault, Shown, enter_books, round_status};
 use std::alloc::{AllocError, Global};
 
-/// A replacement for the files and devices that input lines can name. It has no files and no
-/// counter values.
+/// A replacement for the files and devices that commands in input lines can name. It has no files
+/// and no counter values.
 #[derive(Clone, Copy)]
 pub(crate) struct NoFiles;
 
@@ -24,9 +24,9 @@ impl NamedFiles for NoFiles {
     }
 }
 
-// Checks that an input line is refused if the database fails. This includes a failing call that
-// compares the energy with the meter's ceiling (greatest power): the user is then not asked to
-// confirm.
+// Checks that a command in an input line is refused if the database fails. This includes a failing
+// call that compares the energy with the meter's ceiling (greatest power): the user is then not
+// asked to confirm.
 #[test]
 fn a_line_over_a_failing_store_is_refused(rt: HostRuntime) {
     for failing in 1..12 {

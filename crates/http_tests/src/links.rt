@@ -15,8 +15,8 @@ static REQUEST: &[u8] =
 const WHOLE: usize = 89;
 
 // Reads the first `end` bytes of the tested HTTP request in chunks of ten bytes, over a connection
-// that ends or fails. Asserts that the request is incomplete, the fault, and the bytes that were
-// read.
+// that ends or fails. Asserts that the request is incomplete, and checks the reported fault and the
+// bytes that were read.
 fn assert_unread(
     rt: &impl Abort,
     alloc: Global,

@@ -62,8 +62,8 @@ pub(crate) fn response_of<B: Books>(
     }
 }
 
-/// Returns the response to the bytes of an HTTP request of `sunreg run`, as [`response_of`] does
-/// for a parsed request.
+/// Returns the response to the bytes of an HTTP request of `sunreg run`. The function
+/// [`response_of`] does the same for a request that is already parsed.
 pub(crate) fn responded<B: Books>(
     rt: &impl Abort,
     alloc: Global,

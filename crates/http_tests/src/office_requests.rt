@@ -73,7 +73,8 @@ fn requests_come_in_chunks_or_are_cut_off(rt: HostRuntime) {
     }
 }
 
-// Checks that a command is executed only once, whichever call to the connection fails.
+// Checks that the command of an HTTP request is executed only once, whichever read or write of the
+// client's connection fails.
 #[test]
 fn each_call_of_the_link_may_fail(rt: HostRuntime) {
     let tables: [&[Case<'static>]; 2] = [&QUESTIONS, &COMMANDS];

@@ -78,7 +78,8 @@ static ENTRIES: [MeterEntry; 5] = [
 static ENTRY_LINES: &str =
     "1 opening 7 4294967295 0 0 -3 stands\n2 manual 18446744073709551615 4294967295 255 0 3 void\n3 rescale 9 5 0 6 -1 stands\n4 reset 10 6 0 0 -1 stands\n5 closing 11 2 1 0 -1 stands\nend 5\n";
 
-// Each kind of entry has a line with the word for that kind.
+// Tests the text that lists a meter's entries: each kind of entry has a line with the word for this
+// kind.
 #[test]
 fn each_kind_of_entry_has_its_line(rt: HostRuntime) {
     let mut text = Vec::new(rt.alloc());

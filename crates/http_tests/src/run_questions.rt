@@ -33,16 +33,17 @@ fn replied(rt: &impl Abort, alloc: Global, failing: u64, request: &[u8]) -> Opti
 
 // Each test case has an HTTP request, and the number of database calls whose failure leads to 503.
 static FAILING: [(&[u8], u8); 3] = [
-    // One database call each for the devices, for the accounting registers (named counters) of the
-    // device, and for the meter.
+    // The request for `/site` needs one database call each for the devices, for the accounting
+    // registers (named counters) of the device, and for the meter.
     (b"GET /site HTTP/1.1\r\n\r\n", 3),
     (b"GET /metrics HTTP/1.1\r\n\r\n", 3),
-    // One database call for the accounting register (a named counter), and one for its meters.
+    // This request needs one database call for the accounting register (a named counter), and one
+    // for its meters.
     (b"GET /registers/main/meters HTTP/1.1\r\n\r\n", 2),
 ];
 
-// Counts the database calls during a request whose failure leads to 503. If any other database call
-// fails, the response is complete, or the program cannot start.
+// Counts those database calls of a request that lead to the response 503 if they fail. If any other
+// database call fails, the response is complete, or the program cannot start.
 fn calls_that_fail(rt: &impl Abort, alloc: Global, request: &[u8]) -> u8 {
     let failure = sized_reply(alloc, "503 Service Unavailable", "{\"refused\":13}").expect(
         rt,

@@ -121,7 +121,8 @@ fn replied<B: Books>(
     responded(rt, alloc, office, &earlier, b"GET /site HTTP/1.1\r\n\r\n")
 }
 
-// Asserts the response of `/site` in each case.
+// Asserts, for each case, that the response of `/site` reports the case's accounting register (a
+// named energy counter) with the expected meter.
 fn assert_sites<B: Books>(rt: &impl Abort, alloc: Global, office: &mut Office<B>, cases: &[Case]) {
     for (name, register, meters, meter) in cases {
         let body = format!(in alloc;

@@ -2,8 +2,8 @@
 //! `office/questions` and `office/commands` of `http_cases` have the same requests.
 use crate::cases::Case;
 
-/// Queries, requests whose request line or headers are rejected, and a meter exchange with its
-/// retry.
+/// Requests that tests serve one after another: queries, requests whose request line or headers are
+/// rejected, and a meter exchange with its retry.
 pub(crate) static QUESTIONS: [Case<'static>; 22] = [
     Case {
         at: 2800,

@@ -1,5 +1,6 @@
--- Lemmas on the list of day accounts (the energy of each civil day) after one more interval row is
--- added.
+-- Lemmas: suppose that one more interval row (the energy of a quarter hour) is added. Then each day
+-- account (the energy of a civil day) has the number of intervals and the energy of all rows of its
+-- day.
 use Rattle.std.proofs.Common.{◌≡◌, ◌≢◌, ℕ, ◌+◌, ◌-◌, ◌^◌, ◌<◌, ◌≤◌, min, Bool, false, if◌then◌else◌, List, [], ◌∷◌, ◌++◌, length, get_or, refl, sym, ap, subst, ◌∙◌, inl, inr, ◌==◌, arith}
 use Rattle.std.specs.Prelude.{ℤ, ◌↔◌, All, Contains, Option, Some, None}
 use Rattle.std.specs.Option.{ForSome}
@@ -21,12 +22,12 @@ use Rattle.interval_core.proofs.PlaceLemmas.{Other, same_day, other_day, absent,
 use Rattle.interval_core.proofs.CountLemmas.{among, rows_on-same, rows_on-other, distinct_count-push, present, missing, energy-rows_on}
 
 -- True if a day account (the energy of a civil day) is exact: it has the number of intervals and
--- the energy of all rows of the day.
+-- the energy of all interval rows of the day.
 abbrev pub IsExact : Zone → List Share → DayAccount → Type 0
 IsExact zone rows account = account ≡ account_on zone rows account.day
 
--- True if a row of the same day already has the given start, so that the day's account already
--- counts this interval.
+-- True if an interval row (energy of a quarter hour) on the civil day of the given start already
+-- has this start. The day's account then already counts this interval.
 abbrev pub is_known : Zone → List Share → ℕ → Bool
 is_known zone rows start = among start (starts_of (rows_on zone rows (day_at zone start)))
 
@@ -51,7 +52,9 @@ ap_account : {count count' mwh mwh' : ℕ} (day : ℤ) → count ≡ count' → 
     → ◌≡◌ {A = DayAccount} (record { day = day; count = count; mwh = mwh }) (record { day = day; count = count'; mwh = mwh' })
 ap_account day same_count same_mwh = rw (same_count, same_mwh)
 
--- Adding an interval row leaves the accounts of all other days exact (`IsExact`).
+-- Suppose that an interval row (energy of a quarter hour) is added to a list of rows. Then the
+-- accounts of all days other than the row's civil day still have the exact energy of their days
+-- (`IsExact`).
 others-exact : (zone : Zone) (rows : List Share) (row : Share) (accounts : List DayAccount) → All (IsExact zone rows) accounts → All (Other (day_at zone row.start)) accounts
     → All (IsExact zone (rows ++ row ∷ [])) accounts
 others-exact zone rows row accounts exact others = λ k d lt. exact k d lt ∙ sym (account-other zone rows row (get_or accounts k d).day (others k d lt))
@@ -59,16 +62,18 @@ others-exact zone rows row accounts exact others = λ k d lt. exact k d lt ∙ s
 days-between : (before : List DayAccount) (a : DayAccount) (after : List DayAccount) → days_of (before ++ a ∷ after) ≡ days_of before ++ a.day ∷ days_of after
 days-between before a after = map-append (λ (x : DayAccount). x.day) before (a ∷ after)
 
--- Adding an interval row leaves the number of rows of all other days unchanged.
+-- Adding an interval row (energy of a quarter hour) leaves the number of rows of all days other
+-- than the row's civil day unchanged.
 same_rows : (zone : Zone) (rows : List Share) (row : Share) (day : ℤ) → day ≢ day_at zone row.start → length (rows_on zone (rows ++ row ∷ []) day) ≡ length (rows_on zone rows day)
 same_rows zone rows row day other = ap length (rows_on-other zone rows row day other)
 
--- The civil day of an interval row that was added has at least one row.
+-- After an interval row (energy of a quarter hour) was added, the civil day of this row has at
+-- least one row.
 more_rows : (zone : Zone) (rows : List Share) (row : Share) → 0 < length (rows_on zone (rows ++ row ∷ []) (day_at zone row.start))
 more_rows zone rows row =
     rw rows_on-same (omega (arith, length-append (rows_on zone rows (day_at zone row.start)) (row ∷ [])))
 
--- A list that consists of a front part, an element and a rest contains this element.
+-- A list that consists of some elements, the element `y` and further elements contains `y`.
 here-contained : (xs : List ℤ) (y : ℤ) (ys : List ℤ) → Contains (xs ++ y ∷ ys) y
 here-contained xs y ys = Contains-append_right xs (y ∷ ys) y (0, omega arith, refl)
 
@@ -105,8 +110,8 @@ earlier-other day accounts earlier = λ k d lt same. let before = earlier k d lt
 later-other : (day : ℤ) (accounts : List DayAccount) → All (Later day) accounts → All (Other day) accounts
 later-other day accounts later = λ k d lt same. let after = later k d lt in omega (arith, signed_arith, after, same)
 
--- If a day has a day account (the energy of the day), adding an interval row replaces this account.
--- The new account has the energy of all rows of the day.
+-- If a day has a day account (the energy of the day), adding an interval row (energy of a quarter
+-- hour) replaces this account. The new account has the energy of all rows of the day.
 pub replaced : (zone : Zone) (rows : List Share) (row : Share) (before : List DayAccount) (a b : DayAccount) (after : List DayAccount)
     → AreAccounts zone rows (before ++ a ∷ after) → a.day ≡ day_at zone row.start → b ≡ account_on zone (rows ++ row ∷ []) (day_at zone row.start)
     → AreAccounts zone (rows ++ row ∷ []) (before ++ b ∷ after)
@@ -133,8 +138,8 @@ replaced zone rows row before a b after was same exact =
           (others-exact zone rows row after (All-tail (IsExact zone rows) a after parts.1) (later-other day after later)));
     }
 
--- Adding an interval row to a day without rows inserts the day account (the energy of the day) with
--- this row alone.
+-- Adding an interval row (energy of a quarter hour) to a day without rows inserts the day account
+-- (the energy of the day) with this row alone.
 pub inserted : (zone : Zone) (rows : List Share) (row : Share) (before : List DayAccount) (b : DayAccount) (after : List DayAccount)
     → AreAccounts zone rows (before ++ after) → All (Earlier (day_at zone row.start)) before → All (Later (day_at zone row.start)) after
     → b ≡ account_on zone (rows ++ row ∷ []) (day_at zone row.start) → AreAccounts zone (rows ++ row ∷ []) (before ++ b ∷ after)
@@ -195,8 +200,8 @@ begun zone rows row old new accounts begins =
     ap_account day refl (omega arith) ∙ sym (ap of_rows (rows_on-same zone rows row ∙ ap (λ (rs : List Share). rs ++ row ∷ []) none)) in
     rw begins.new_is (inserted zone rows row before b after was begins.earlier begins.later exact)
 
--- True if a start equals the latest start of all earlier interval rows. False if there are no
--- earlier rows.
+-- True if a start time equals the latest start time of all earlier interval rows (energies of
+-- quarter hours). False if there are no earlier rows.
 abbrev pub is_latest : Option ℕ → ℕ → Bool
 is_latest None start = false
 is_latest (Some latest) start = latest == start

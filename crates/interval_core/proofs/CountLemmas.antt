@@ -1,5 +1,5 @@
--- Lemmas on the interval rows of a day, and the number of their different starts, after one more
--- row is added.
+-- Lemmas: suppose that one more interval row (energy of a quarter hour) is added. Then the number
+-- of different starts in its day grows by one if no earlier row of the day has its start.
 use Rattle.std.proofs.Common.{◌≡◌, ◌≢◌, ℕ, ◌+◌, ◌<◌, ◌≤◌, ◌||◌, ◌==◌, if◌then◌else◌, cond, Bool, true, false, List, [], ◌∷◌, ◌++◌, refl, sym, ap, subst, ◌∙◌, inl, inr, arith}
 use Rattle.std.specs.Prelude.{ℤ, All, Contains, filter}
 use Rattle.std.specs.List.{list_any}
@@ -22,7 +22,7 @@ among start starts = list_any (λ n. n == start) starts
 abbrev one_if_new : Bool → ℕ
 one_if_new known = if known then 0 else 1
 
--- Adding an interval row appends the row to the rows of its civil day.
+-- Adding an interval row (energy of a quarter hour) appends the row to the rows of its civil day.
 pub rows_on-same : (zone : Zone) (rows : List Share) (row : Share) → rows_on zone (rows ++ row ∷ []) (day_at zone row.start) ≡ rows_on zone rows (day_at zone row.start) ++ row ∷ []
 rows_on-same zone rows row =
     let day = day_at zone row.start in
@@ -76,8 +76,8 @@ distinct_count-push (n ∷ starts) m =
           (count-other (among n starts) (among m starts) (distinct_count starts))
     ]
 
--- If a start is among the starts of all rows, it is also among the starts of the rows of its civil
--- day.
+-- If a start time is among the starts of all interval rows (energies of quarter hours), it is also
+-- among the starts of the rows of its civil day.
 pub present : (zone : Zone) (rows : List Share) (start : ℕ) → Contains (starts_of rows) start → among start (starts_of (rows_on zone rows (day_at zone start))) ≡ true
 present zone [] start contains = absurd (omega (arith, contains.1))
 present zone (row ∷ rows) start contains =
@@ -98,8 +98,8 @@ present zone (row ∷ rows) start contains =
           ]
     ]
 
--- A start that is later than the starts of all interval rows is not among the starts of a day's
--- rows.
+-- A start time that is later than the starts of all interval rows (energies of quarter hours) is
+-- not among the starts of a day's rows.
 pub missing : (zone : Zone) (rows : List Share) (day : ℤ) (start : ℕ) → All (λ (row : Share). row.start < start) rows → among start (starts_of (rows_on zone rows day)) ≡ false
 missing zone [] day start earlier = refl
 missing zone (row ∷ rows) day start earlier =
@@ -112,7 +112,8 @@ missing zone (row ∷ rows) day start earlier =
       | false ↦ none
     ]
 
--- The energy of the interval rows of a day is at most the energy of all rows.
+-- The energy of the interval rows (energies of quarter hours) of a day is at most the energy of all
+-- rows.
 pub energy-rows_on : (zone : Zone) (rows : List Share) (day : ℤ) → energy_of (rows_on zone rows day) ≤ energy_of rows
 energy-rows_on zone [] day = omega arith
 energy-rows_on zone (row ∷ rows) day =

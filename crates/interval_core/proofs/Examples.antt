@@ -1,4 +1,5 @@
--- Worked examples of both ends of each limit: the last allowed value and the first refused value.
+-- Worked examples of the limits on the length of a step, on timestamps and on time zone texts: the
+-- last allowed value and the first refused value.
 use native.Mathlib.Omega.{arith}
 use Rattle.std.proofs.Common.{◌≡◌, [], Some, refl, lit≤, true, false}
 use Rattle.std.specs.Prelude.{nat_le}
@@ -26,7 +27,8 @@ last_second = (refl, omega arith, omega arith)
 first_second_of_the_next : Touches (record { from = 900; till = 901; mwh = 1 }) 0 → ⊥
 first_second_of_the_next touches = omega (arith, touches.2)
 
--- The latest row that a `DayFold` adds up may begin at the beginning of 2100, but not later.
+-- The latest row that a `DayFold` (a sum of energy by civil day) accepts may begin at the beginning
+-- of 2100, but not later.
 last_moment : IsSoundFold [] (Some 4102444800)
 last_moment = record { in_order = tt; counts = λ k d lt. absurd (omega (arith, lt)); moments = lit≤ tt }
 

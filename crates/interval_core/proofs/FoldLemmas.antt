@@ -1,4 +1,5 @@
--- Lemmas on `DayFold`, which adds up energy by civil day, after one more row is added.
+-- Lemmas: after one more row is added to a `DayFold`, which adds up energy by civil day, it has the
+-- sum of all its rows and keeps its invariant.
 use Rattle.std.proofs.Common.{◌≡◌, ◌≢◌, ℕ, ◌+◌, ◌-◌, ◌^◌, ◌<◌, ◌≤◌, min, Bool, true, false, not, if◌then◌else◌, List, [], ◌∷◌, ◌++◌, map, length, get_or, take, refl, sym, ap, subst, ◌∙◌, inl, inr, ◌==◌, nat_eq, arith}
 use Rattle.std.specs.Prelude.{ℤ, All, Option, Some, None}
 use Rattle.std.specs.Option.{ForSome, option_eq}
@@ -22,16 +23,16 @@ use Rattle.interval_core.proofs.AccountLemmas.{grown, begun, known-is, is_known,
 pub All-of_map : {X Y : Type 0} (P : Y → Type 0) (f : X → Y) (xs : List X) → All P (map f xs) → All (λ x. P (f x)) xs
 All-of_map P f xs all = λ k d lt. rw (← get_or-map f xs k d (f d) lt) (all k (f d) (rw (length-map xs f) lt))
 
--- If the invariant of a `DayFold` (energy by civil day) holds, no day's number of intervals reaches
--- 2^32 - 1.
+-- If the state of a `DayFold` (energy by civil day) satisfies its invariant `IsSoundFold`, then no
+-- day's number of intervals reaches 2^32 - 1.
 pub count-fits : (latest : Option ℕ) (totals : List DayTotal) → IsSoundFold (map account_of totals) latest → All (λ (total : DayTotal). total.count < 2 ^ 32 - 1) totals
 count-fits latest totals sound = λ k d lt.
     let P : DayAccount → Type 0 = λ a. a.count ≤ most_intervals latest in
     let small = All-of_map P account_of totals sound.counts k d lt in
     omega (arith, small, sound.moments)
 
--- Comparing the optional latest start with a start, as the program does, gives the same result as
--- the definition `is_latest`.
+-- Comparing a start time with the latest start time (an option), as the program does, gives the
+-- same result as the definition `is_latest`.
 pub is_latest-eq : (latest : Option ℕ) (start : ℕ) → option_eq nat_eq latest (Some start) ≡ is_latest latest start
 is_latest-eq None start = refl
 is_latest-eq (Some latest) start = refl
@@ -39,8 +40,9 @@ is_latest-eq (Some latest) start = refl
 abbrev IsUpTo : ℕ → DayAccount → Type 0
 IsUpTo most account = account.count ≤ most
 
--- A day's number of intervals stays within its upper bound. A row at a new start adds one interval,
--- and a row at the latest start adds none.
+-- The number of a day's quarter hours that have a row stays within its upper bound
+-- (`most_intervals`). A row at a new start adds one quarter hour, and a row at the latest start
+-- adds none.
 count-more : (latest : Option ℕ) (start had : ℕ) → ForSome latest (λ l. l ≤ start) → had ≤ most_intervals latest → had + (if not (is_latest latest start) then 1 else 0) ≤ start + 1
 count-more None start had order bound = omega (arith, bound)
 count-more (Some latest) start had order bound =
@@ -119,8 +121,8 @@ taken-none zone = record {
   latest = refl;
 }
 
--- In a list of rows ordered by start, each row starts at or after the latest start of the rows
--- before it.
+-- In a list of interval rows (energies of quarter hours) ordered by start, each row starts at or
+-- after the latest start of the rows before it.
 pub latest-before : (rows : List Share) (i latest : ℕ) (d : Share) → IsNonDecreasingBy (λ (row : Share). row.start) rows → i < length rows
     → IsLatest (take i rows) (Some latest) → latest ≤ (get_or rows i d).start
 latest-before rows i latest d order within at =
@@ -133,7 +135,7 @@ latest-before rows i latest d order within at =
     let le : (get_or rows k d).start ≤ (get_or rows i d).start = order k i d (omega (arith, before)) within in
     omega (arith, le, is, ap start same)
 
--- The energy of the first `i` + 1 rows is the energy of the first `i` rows plus that of the next
--- row.
+-- The energy of the first `i` + 1 interval rows (energies of quarter hours) is the energy of the
+-- first `i` rows plus that of the next row.
 pub energy-more : (rows : List Share) (i : ℕ) (d : Share) → i < length rows → energy_of (take (i + 1) rows) ≡ energy_of (take i rows) + (get_or rows i d).mwh
 energy-more rows i d within = sum_by_more (λ (row : Share). row.mwh) rows i d within

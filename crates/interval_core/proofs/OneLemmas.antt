@@ -1,4 +1,5 @@
--- Each list of interval rows has exactly one list of day accounts (the energy of each civil day).
+-- Each list of interval rows (energies of quarter hours) has exactly one list of day accounts (the
+-- energy of each civil day).
 use Rattle.std.proofs.Common.{◌≡◌, List, [], ◌∷◌, ◌++◌, refl, sym, ap, subst, ◌∙◌, inl, inr, append_assoc, arith}
 use Rattle.std.specs.Prelude.{ℤ, ◌<ℤ◌, ◌⊎◌, All, Contains}
 use Rattle.std.specs.Cmp.{int_ranks}

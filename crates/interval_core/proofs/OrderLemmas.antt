@@ -1,4 +1,5 @@
--- Lemmas on lists of day accounts (energies of civil days) in the order of their days.
+-- Lemmas: a list of day accounts (energies of civil days) in the order of their days stays in order
+-- if an account is replaced or inserted at its index.
 use Rattle.std.proofs.Common.{◌≡◌, ℕ, zero, suc, ◌<◌, List, [], ◌∷◌, ◌++◌, length, get_or, take, true, false, arith}
 use Rattle.std.specs.Prelude.{ℤ, ◌<ℤ◌, ◌≤ℤ◌, All}
 use Rattle.std.specs.Cmp.{int_ranks}
@@ -15,8 +16,8 @@ Earlier day account = account.day <ℤ day
 abbrev pub Later : ℤ → DayAccount → Type 0
 Later day account = day <ℤ account.day
 
--- If a day account in an ordered list is of a day before `day`, all accounts before it in the list
--- are too. A day account is the energy of a civil day.
+-- If a day account in an ordered list is of a day before `day`, then all earlier accounts of the
+-- list are also of days before `day`. A day account is the energy of a civil day.
 pub earlier-take : (day : ℤ) (accounts : List DayAccount) (place : ℕ) (d : DayAccount) → AreInOrder accounts → place < length accounts
     → (get_or accounts place d).day <ℤ day → All (Earlier day) (take (suc place) accounts)
 earlier-take day [] place d order within last = absurd (omega arith)

@@ -16,7 +16,8 @@ use Rattle.interval_core.specs.Account.{starts_of, energy_of}
 use Rattle.interval_core.specs.Zone.{day_at}
 use Rattle.interval_core.specs.Days.{DayAccount, rows_on, distinct_count, account_on, AccountsIgnoreOrder}
 
--- The weight of a row that passes a test, or 0 for any other row.
+-- The value of a given function for an interval row (energy of a quarter hour) that passes a test,
+-- or 0 for any other row.
 
 abbrev if_passes : (Share → Bool) → (Share → ℕ) → Share → ℕ
 if_passes p w row = cond (p row) (w row) 0
@@ -37,7 +38,8 @@ sum_moved : (p : Share → Bool) (w : Share → ℕ) (rows others : List Share) 
 sum_moved p w rows others h =
     omega (arith, sum_passing p w rows, sum_passing p w others, sum_by-IsPermutation (if_passes p w) rows others h)
 
--- The number 1 for a row with the given start, or 0 for any other row.
+-- The number 1 for an interval row (energy of a quarter hour) with the given start, or 0 for any
+-- other row.
 
 abbrev is_at : ℕ → Share → ℕ
 is_at start row = cond (row.start == start) 1 0
@@ -50,7 +52,8 @@ abbrev counted : (bound : ℕ) → List Share → ℕ
 counted zero rows = 0
 counted (suc start) rows = one_if_some (sum_by (is_at start) rows) + counted start rows
 
--- A start is in the list of all rows' starts if and only if at least one row has this start.
+-- A start time is in the list of all starts of interval rows (energies of quarter hours) if and
+-- only if at least one row has this start.
 there_or_not : (start : ℕ) (rows : List Share) → one_if_some (sum_by (is_at start) rows) ≡ cond (list_any (λ m. m == start) (starts_of rows)) 1 0
 there_or_not start [] = refl
 there_or_not start (row ∷ rows) =
@@ -110,7 +113,8 @@ counted_alike : (bound : ℕ) (rows others : List Share) → ((n : ℕ) → sum_
 counted_alike zero rows others h = refl
 counted_alike (suc n) rows others h = omega (arith, ap one_if_some (h n), counted_alike n rows others h)
 
--- The order of rows does not change the number of different starts of the rows that pass a test.
+-- The order of interval rows (energies of quarter hours) does not change the number of different
+-- starts of the rows that pass a test.
 
 count_moved : (p : Share → Bool) (rows others : List Share) → IsPermutation rows others
     → distinct_count (starts_of (filter p rows)) ≡ distinct_count (starts_of (filter p others))

@@ -1,5 +1,5 @@
--- Lemmas on the list of day accounts (energies of civil days) after a row is added at the index of
--- its day.
+-- Lemmas: adding a row at the index of its day changes only this day's account in the list of day
+-- accounts (energies of civil days).
 use Rattle.std.proofs.Common.{◌≡◌, ◌≢◌, ℕ, zero, suc, ◌+◌, ◌-◌, ◌^◌, ◌<◌, ◌≤◌, min, List, [], ◌∷◌, ◌++◌, map, length, get_or, set, take, drop, sym, ap, ◌∙◌, refl, true, false, inl, inr, arith}
 use Rattle.std.specs.Prelude.{ℤ, ◌<ℤ◌, ◌≤ℤ◌, All, Contains, insert}
 use Rattle.std.specs.Ordering.{int_eq}

@@ -1,5 +1,5 @@
--- The interval rows of a list of steps add up to the energy of the steps. A step is the energy
--- between two readings.
+-- The interval rows (energies of quarter hours) of a list of steps add up to the energy of the
+-- steps. A step is the energy between two readings.
 use Rattle.std.proofs.Common.{◌≡◌, ℕ, ◌+◌, ◌-◌, ◌*◌, ◌/◌, ◌%◌, ◌<◌, ◌≤◌, min, max, List, [], ◌∷◌, get_or, sum_by, refl, sym, ap, ◌∙◌, inl, inr, arith}
 use Rattle.std.specs.Prelude.{All, Contains}
 use Rattle.std.proofs.lemmas.Bool.{cases_lt}
@@ -30,13 +30,14 @@ touched-first step bound forward whole before =
       | inr ge ↦ let is : first_from step bound ≡ bound = omega (arith, ge) in rw is (whole, before, omega (arith, ge))
     ]
 
--- All starts of an ascending list are at or after its first start.
+-- In an ascending list of interval starts, all starts are at or after the first start.
 not_before : (x : ℕ) (xs : List ℕ) (t : ℕ) → IsAscending (x ∷ xs) → Contains (x ∷ xs) t → x ≤ t
 not_before x xs t order contains =
     let P : ℕ → Type 0 = λ y. x ≤ y in
     All-contains P (x ∷ xs) t (All-cons P x xs (omega arith) (λ k d lt. let later = order.0 k d lt in omega (arith, later))) contains
 
--- A start in an ascending list that is later than the first start is among the other starts.
+-- Lemma: let an ascending list of interval starts begin with `x`. A start in this list that is
+-- later than `x` is among the starts after `x`.
 in_rest : (x : ℕ) (xs : List ℕ) (t : ℕ) → x < t → Contains (x ∷ xs) t → Contains xs t
 in_rest x xs t lt contains =
     elim (Contains-append_cases (x ∷ []) xs t contains) [
@@ -48,7 +49,7 @@ in_rest x xs t lt contains =
     ]
 
 -- The shares of a step in the intervals that start at or after `bound` add up to the step's energy
--- after `bound`. A share is the energy in one quarter hour.
+-- after `bound`. A step is the energy between two readings, a share its energy in one quarter hour.
 energy-from : (step : Step) (xs : List ℕ) (bound : ℕ) → step.from < step.till → bound % 900 ≡ 0 → IsAscending xs → All (IsStartFrom bound) xs
     → ((t : ℕ) → bound ≤ t → Touches step t → Contains xs t)
     → sum_by (share_at step) xs ≡ running_energy step step.till - running_energy step (min (max bound step.from) step.till)

@@ -19,7 +19,8 @@ over_two = refl
 on_starts : shares_of (record { from = 900; till = 2700; mwh = 11 }) ≡ record { start = 900; mwh = 5 } ∷ record { start = 1800; mwh = 6 } ∷ []
 on_starts = refl
 
--- A step (the time between two readings) without energy has shares of 0 mWh.
+-- A step (the time between two readings) without energy has shares (energies in quarter hours) of 0
+-- mWh.
 nothing : shares_of (record { from = 0; till = 1800; mwh = 0 }) ≡ record { start = 0; mwh = 0 } ∷ record { start = 900; mwh = 0 } ∷ []
 nothing = refl
 

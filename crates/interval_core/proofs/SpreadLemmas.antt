@@ -21,7 +21,8 @@ starts-left : (step : Step) (count next : ℕ) → starts_of (map (share_of step
 starts-left step zero next = refl
 starts-left step (suc count) next = ap (λ (l : List ℕ). next * 900 ∷ l) (starts-left step count (next + 1))
 
--- The shares of a step (its energies by quarter hour) are in ascending order of their starts.
+-- The shares of a step are in ascending order of their starts. A share is the part of the step (the
+-- energy between two readings) in one quarter hour.
 rising : (count next : ℕ) → IsAscending (map start_of (range_with_len next count))
 rising zero next = tt
 rising (suc count) next =

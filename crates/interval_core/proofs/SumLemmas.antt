@@ -1,4 +1,5 @@
--- The shares of a step (its energies by quarter hour) add up to the step's energy.
+-- The shares of a step (the energy between two readings) in all quarter hours add up to the step's
+-- energy.
 use Rattle.std.proofs.Common.{◌≡◌, ℕ, zero, suc, ◌+◌, ◌-◌, ◌*◌, ◌/◌, ◌<◌, ◌≤◌, min, max, ap, map, arith}
 use Rattle.std.specs.List.{range_with_len}
 use Rattle.std.proofs.Math.Nat.{mul-div_cancel, mul-zero, zero-div}
@@ -18,8 +19,8 @@ running-from step =
 pub running-till : (step : Step) → step.from < step.till → running_energy step step.till ≡ step.mwh
 running-till step forward = mul-div_cancel step.mwh (omega arith)
 
--- A step's shares (its energies by quarter hour) from quarter hour `next` on add up to the step's
--- energy after that quarter hour's start.
+-- The shares of a step (the energy between two readings) from quarter hour `next` on add up to the
+-- step's energy after that quarter hour's start.
 pub energy-left : (step : Step) (count next : ℕ) → step.from < step.till → step.from / 900 ≤ next → next + count ≡ (step.till - 1) / 900 + 1
     → energy_of (map (share_of step) (range_with_len next count)) ≡ running_energy step step.till - running_energy step (min (max (next * 900) step.from) step.till)
 energy-left step zero next forward begun end =

@@ -12,7 +12,7 @@ abbrev pub Touches : Step → ℕ → Type 0
 Touches step start = (start % INTERVAL_SECONDS ≡ 0) × (start < step.till)
     × (step.from < start + INTERVAL_SECONDS)
 
--- The start times of the quarter hours in a list of interval rows.
+-- The start times of the quarter hours in a list of interval rows (energies of quarter hours).
 abbrev pub starts_of : List Share → List ℕ
 starts_of rows = map (λ row. row.start) rows
 
@@ -37,20 +37,21 @@ pub record IsSpread (step : Step) (shares : List Share) : Type 0 where
   pub whole : energy_of shares ≡ step.mwh
 
 -- Theorem: the division of a step's energy (between two readings) into quarter hours is exact. The
--- shares are in order and add up to the step's energy.
+-- shares (the energies of the quarter hours) are in order and add up to the step's energy.
 abbrev pub SharesAddUp : Type 0
 SharesAddUp = (step : Step) → step.from < step.till → IsSpread step (shares_of step)
 
--- States that `rows` contains one row for each quarter hour that a step touches, in order. Each row
--- is the sum of all steps' energies in its quarter hour.
+-- States that `rows` contains one row for each quarter hour that at least one of the steps
+-- (energies between two readings) touches, in order. Each row is the sum of all steps' energies in
+-- its quarter hour.
 pub record IsAccount (steps : List Step) (rows : List Share) : Type 0 where
   pub in_order : IsAscending (starts_of rows)
   pub touched : (start : ℕ)
       → Contains (starts_of rows) start ↔ Any (λ step. Touches step start) steps
   pub each : All (λ row. row.mwh ≡ sum_by (λ step. share_at step row.start) steps) rows
 
--- Theorem: interval rows that are the sums of the steps' energies in each quarter hour have the
--- same total energy as the steps.
+-- Theorem: suppose that each interval row is the sum of the energies of all steps (between
+-- readings) in its quarter hour. Then the rows have the same total energy as the steps.
 abbrev pub AccountsAddUp : Type 0
 AccountsAddUp = (steps : List Step) (rows : List Share) → All (λ step. step.from < step.till) steps
     → IsAccount steps rows

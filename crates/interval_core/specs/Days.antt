@@ -19,7 +19,8 @@ pub record DayAccount : Type 0 where
   pub count : ℕ
   pub mwh : ℕ
 
--- A `DayTotal` with its date converted to a number of days since 1970-01-01.
+-- A `DayTotal` (the energy of a civil day) with its date converted to a number of days since
+-- 1970-01-01.
 abbrev pub account_of : DayTotal → DayAccount
 account_of total = record { day = epoch_day total.day; count = total.count; mwh = total.mwh }
 
@@ -59,15 +60,16 @@ pub record AreAccounts (zone : Zone) (rows : List Share) (accounts : List DayAcc
   pub complete : (day : ℤ) → Contains (days_of accounts) day ↔ (0 < length (rows_on zone rows day))
   pub each : All (λ account. account ≡ account_on zone rows account.day) accounts
 
--- Theorem: for any time zone and interval rows, exactly one list of day accounts (energies of civil
--- days) satisfies `AreAccounts`.
+-- Theorem: any time zone and interval rows (energies of quarter hours) have exactly one correct
+-- list of day accounts (`AreAccounts`). It is in order, and has the energy of the rows of each
+-- civil day.
 abbrev pub AccountsAreOne : Type 0
 AccountsAreOne = (zone : Zone) (rows : List Share)
     → (accounts : List DayAccount) × AreAccounts zone rows accounts
     × ((others : List DayAccount) → AreAccounts zone rows others → others ≡ accounts)
 
--- Theorem: the order of interval rows does not change their list of day accounts (energies of civil
--- days).
+-- Theorem: the order of interval rows (energies of quarter hours) does not change their list of day
+-- accounts (energies of civil days).
 abbrev pub AccountsIgnoreOrder : Type 0
 AccountsIgnoreOrder = (zone : Zone) (rows others : List Share) (accounts : List DayAccount)
     → AreAccounts zone rows accounts

@@ -9,8 +9,8 @@ use Rattle.interval_core.specs.declared.zone.Zone.{Zone}
 use Rattle.interval_core.specs.Account.{energy_of, starts_of}
 use Rattle.interval_core.specs.Days.{DayAccount, AreAccounts, AreInOrder}
 
--- The state of a `DayFold`: the energy by civil day of all rows that were added, and the start of
--- the latest row. The start is `None` if no row was added.
+-- The state of a `DayFold`: the energy by civil day of all interval rows (energies of quarter
+-- hours) that were added, and the start of the latest row. The start is `None` if no row was added.
 pub record FoldState : Type 0 where
   pub accounts : List DayAccount
   pub latest : Option ℕ
@@ -19,21 +19,22 @@ pub record FoldState : Type 0 where
 abbrev pub no_rows : FoldState
 no_rows = record { accounts = []; latest = None }
 
--- True if a start is the latest start of a list of interval rows, or `None` if the list is empty.
+-- True if a start time is the latest start of a list of interval rows (energies of quarter hours),
+-- or `None` if the list is empty.
 abbrev pub IsLatest : List Share → Option ℕ → Type 0
 IsLatest rows latest =
     MatchOption latest (rows ≡ [])
     (λ start. Contains (starts_of rows) start × All (λ row. row.start ≤ start) rows)
 
--- States that a `DayFold` has added up exactly the rows of a list, each on its civil day in the
--- time zone.
+-- States that a `DayFold` (a sum of energy by civil day) has added up exactly the interval rows of
+-- a list, each on its civil day in the time zone. An interval row is the energy of a quarter hour.
 pub record HasTaken (zone : Zone) (rows : List Share) (fold : FoldState) : Type 0 where
   pub accounts : AreAccounts zone rows fold.accounts
   pub latest : IsLatest rows fold.latest
 
--- The contract of adding a row to a `DayFold` (energy by civil day). On success, the `DayFold` has
--- added up its earlier rows and this row. Nothing is stated if the energy of all rows is 2^128 mWh
--- or more.
+-- The contract of adding an interval row (energy of a quarter hour) to a `DayFold` (energy by civil
+-- day). On success, the `DayFold` has added up its earlier rows and this row. Nothing is stated if
+-- the energy of all rows is 2^128 mWh or more.
 abbrev pub TakesRow : Zone → Share → (old : FoldState) → Result (Unit {0}) DayFault
     → (new : FoldState) → Type 0
 TakesRow zone row old answer new = (rows : List Share) → HasTaken zone rows old
@@ -46,8 +47,9 @@ abbrev pub most_intervals : Option ℕ → ℕ
 most_intervals None = 0
 most_intervals (Some start) = start + 1
 
--- The invariant of a `DayFold` (energy by civil day), over its day accounts and the start of its
--- latest row.
+-- The invariant of a `DayFold` (energy by civil day). Its day accounts are in order, no account
+-- counts more quarter hours than `most_intervals` allows, and the latest row starts no later than
+-- the beginning of 2100.
 pub record IsSoundFold (accounts : List DayAccount) (latest : Option ℕ) : Type 0 where
   pub in_order : AreInOrder accounts
   pub counts : All (λ account. account.count ≤ most_intervals latest) accounts

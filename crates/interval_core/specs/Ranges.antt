@@ -20,7 +20,8 @@ abbrev pub ends_after : (till : Option Date) → Date → Bool
 ends_after None day = true
 ends_after (Some till) day = is_lt (int_cmp (epoch_day day) (epoch_day till))
 
--- True if a civil day is in the range.
+-- True if a civil day is in a range of days: not before its first day, and before its end. Each of
+-- these two limits may be missing.
 abbrev pub is_in : DayRange → Date → Bool
 is_in range day = begins_by range.from day && ends_after range.till day
 

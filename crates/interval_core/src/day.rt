@@ -16,15 +16,16 @@ use std::fmt::{Display, Formatter};
 /// The reason why a timestamp has no civil day.
 #[derive(Clone, Copy, Debug)]
 pub enum DayFault {
-    /// The calendar has no such instant. A timestamp up to `LAST_MOMENT` never causes this fault.
+    /// The calendar has no instant with this timestamp. A timestamp up to `LAST_MOMENT` (the
+    /// beginning of 2100) never causes this fault.
     Zone,
     /// The process is out of memory.
     Memory,
 }
 
 impl DayFault {
-    /// Returns the numeric code of the fault, from 1. The program does not print or store this
-    /// number.
+    /// Returns the numeric code of the fault (why a timestamp has no civil day), from 1. The
+    /// program does not print or store this number.
     pub fn number(self) -> u8
         ensures { result ≡ day_fault_number self }
     {

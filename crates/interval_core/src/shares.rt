@@ -10,7 +10,8 @@ pub use energy_core::INTERVAL_SECONDS as INTERVAL;
 use energy_core::{MAX_INTERVALS, MAX_TOTAL, Step};
 use std::marker::Model;
 
-/// The energy in mWh in the quarter hour from `start`, which is in seconds since 1970-01-01 UTC.
+/// The energy of one quarter hour in mWh, and the start of the quarter hour in seconds since
+/// 1970-01-01 UTC.
 #[derive(Clone, Copy, PartialEq, Eq)]
 pub struct Share {
     pub start: u64,
@@ -41,7 +42,8 @@ impl Model for Shares {
 }
 
 impl Shares {
-    /// Returns an iterator over the shares of a step (its energies by quarter hour).
+    /// Returns an iterator over the shares, by quarter hour, of a step (the energy between two
+    /// readings).
     pub fn of(step: &Step) -> Shares
         requires forward { step.now.from < step.now.till }
         requires intervals { intervals_touched step.now.from step.now.till ≤ MAX_INTERVALS }

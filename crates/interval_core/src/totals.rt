@@ -62,8 +62,8 @@ impl DayFold {
         }
     }
 
-    /// Returns the civil days of all pushed rows with their energy, in order. This function
-    /// allocates nothing.
+    /// Returns the civil days of all interval rows (energies of quarter hours) that were added to
+    /// this sum, with their energy, in order. This function allocates nothing.
     pub fn rows(&self) -> &[DayTotal]
         ensures accounts { map account_of result.now ≡ self.now.accounts }
         ensures in_order { AreInOrder self.now.accounts }
@@ -71,8 +71,8 @@ impl DayFold {
         self.totals.as_slice()
     }
 
-    /// Converts the fold to the list of its civil days with their energy, in order. This function
-    /// allocates nothing.
+    /// Converts a `DayFold` (a sum of energy by civil day) to the list of its civil days with their
+    /// energy, in order. This function allocates nothing.
     pub fn into_rows(self) -> Vec<DayTotal>
         ensures { map account_of result.items ≡ self.accounts }
     {
@@ -80,12 +80,12 @@ impl DayFold {
         totals
     }
 
-    /// Adds a row with `mwh` of energy in the quarter hour from `start`. The row belongs to the
-    /// civil day of `start` in the zone.
+    /// Adds an interval row: `mwh` of energy in the quarter hour from `start`. The row belongs to
+    /// the civil day of `start` in the zone.
     ///
-    /// A row with the same start as the latest row does not count as another quarter hour. The
-    /// energy of a day saturates at 2^128 - 1 mWh. The only error is out of memory, which leaves
-    /// the fold unchanged.
+    /// An interval row with the same start as the latest row does not count as another quarter
+    /// hour. The energy of a day saturates at 2^128 - 1 mWh. The only error is out of memory, which
+    /// leaves the sum of energy by day unchanged.
     pub fn push(&mut self, start: u64, mwh: u64, zone: &Zone) -> Result<(), DayFault>
         requires moment { start ≤ LAST_MOMENT }
         requires not_back { ForSome self.old.latest (λ latest. latest ≤ start) }
@@ -104,8 +104,8 @@ impl DayFold {
     }
 }
 
-/// Copies the civil days of all pushed rows with their energy. Pushing rows to the copy leaves the
-/// original unchanged.
+/// Copies a `DayFold`, with the civil days of all pushed rows and their energy. Pushing rows to the
+/// copy leaves the original unchanged.
 impl Clone for DayFold {
     ghost use Rattle.std.specs.Prelude.{◌≡◌};
 
@@ -137,8 +137,8 @@ pub fn by_day(alloc: Global, rows: &[Share], zone: &Zone) -> Result<Vec<DayTotal
     Ok(fold.into_rows())
 }
 
-/// Returns the index of the first day in the list that is not before `day`. The search begins at
-/// the end of the list, because the latest rows belong there.
+/// Returns the index of the first day total in the list whose day is not before `day`. The search
+/// begins at the end of the list, where the latest days are.
 fn place_of(totals: &[DayTotal], day: Date) -> usize
     ensures within { result ≤ length totals.now }
     ensures place { AreInOrder (map account_of totals.now)
@@ -151,8 +151,8 @@ fn place_of(totals: &[DayTotal], day: Date) -> usize
     place
 }
 
-/// Returns the index of a day in the list as `Ok`, or the index at which to insert the day as
-/// `Err`.
+/// Returns the index of a day's total in the list as `Ok`, or the index at which to insert the
+/// total as `Err`.
 fn find_day(totals: &[DayTotal], day: Date) -> Result<usize, usize>
     requires { AreInOrder (map account_of totals.now) }
     ensures found { IfOk result (HoldsDay (epoch_day day) (map account_of totals.now)) }
@@ -166,8 +166,8 @@ fn find_day(totals: &[DayTotal], day: Date) -> Result<usize, usize>
     }
 }
 
-/// Adds `mwh` of energy to a day in the list, or inserts the day if it is missing. If `is_new`, an
-/// existing day counts another quarter hour.
+/// Adds `mwh` (milliwatt-hours) to the total of a day, or inserts a total for the day if it is
+/// missing. If `is_new`, an existing total counts one more quarter hour.
 fn add(totals: &mut Vec<DayTotal>, day: Date, is_new: bool, mwh: u64) -> Result<(), AllocError>
     requires in_order { AreInOrder (map account_of totals.old.items) }
     requires counts { All (λ total. total.count < 2 ^ 32 - 1) totals.old.items }

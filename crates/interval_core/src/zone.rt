@@ -12,7 +12,7 @@ use std::fmt::{Display, Formatter};
 /// The reason why a text does not describe a time zone.
 #[derive(Clone, Copy, Debug, PartialEq, Eq)]
 pub enum ZoneFault {
-    /// The text is not a POSIX rule of at most 64 bytes.
+    /// The text is not a POSIX time zone rule of at most 64 bytes.
     Text,
     /// The process is out of memory. No function returns this fault, because a time zone allocates
     /// nothing.
@@ -20,8 +20,8 @@ pub enum ZoneFault {
 }
 
 impl ZoneFault {
-    /// Returns the numeric code of the fault, from 1. The program does not print or store this
-    /// number.
+    /// Returns the numeric code of the time zone fault, from 1. The program does not print or store
+    /// this number.
     pub fn number(self) -> u8
         ensures { result ≡ zone_fault_number self }
     {

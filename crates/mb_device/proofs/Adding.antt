@@ -1,4 +1,5 @@
--- Lemmas about reading and writing ranges of addresses in a table of Modbus values.
+-- Lemmas about a range of addresses in a table of Modbus values: cutting the range at the table's
+-- end selects the same values, and writing zeros sets all values of the range to 0.
 use Rattle.std.proofs.Common.{◌≡◌, ◌∙◌, ℕ, Bool, Option, Some, List, ap, sym, min, length, take, drop, replicate}
 use Rattle.std.proofs.Math.Seq.{paste}
 use Rattle.std.proofs.lemmas.List.{take_min, drop_min, length-replicate}

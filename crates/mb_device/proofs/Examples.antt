@@ -1,5 +1,5 @@
--- Checks the definitions by examples: example frames, each limit, and the requests and responses
--- printed in the Modbus standard.
+-- Checks the definitions of a simulated Modbus device by examples: example frames, each limit, and
+-- the requests and responses printed in the Modbus standard.
 use Rattle.std.proofs.Common.{◌≡◌, List, ℕ, [], ◌∷◌, ◌++◌, Option, Some, None, true, false, replicate, refl}
 use Rattle.mb_wire.specs.Frames.{frames, frames_in}
 use Rattle.mb_wire.specs.Coils.{bits_in, coils_in, packed_in}
@@ -78,13 +78,14 @@ a_cut_connection : carried_out (on_first (play.Cut 4)) (own_frames (read ++ writ
 unfolding trick_at frames frames_in
 a_cut_connection = refl
 
--- If two injected faults name the same frame, the first in the list applies.
+-- If two injected faults have the same frame number, the first of them in the list of faults
+-- applies.
 the_first_trick : sent_to (begun ((1, play.Unit) ∷ (1, play.Drop) ∷ [])) maps (own_frames read) ≡ 0 ∷ 7 ∷ 0 ∷ 0 ∷ 0 ∷ 5 ∷ 2 ∷ 3 ∷ 2 ∷ 0 ∷ 9 ∷ []
 unfolding maps answer_to_frame sent_next course_next trick_at frames frames_in
 the_first_trick = refl
 
--- The injected fault `Id` changes the greatest transaction identifier to 0, and the fault `Unit`
--- changes the greatest unit identifier to 0.
+-- The injected fault `Id` changes the transaction identifier 65535 to 0 (one too high, modulo
+-- 65536). The fault `Unit` changes the unit identifier 255 to 0.
 the_last_id : sent_to (on_first play.Id) maps (own_frames (255 ∷ 255 ∷ 0 ∷ 0 ∷ 0 ∷ 6 ∷ 1 ∷ 3 ∷ 0 ∷ 0 ∷ 0 ∷ 1 ∷ [])) ≡ 0 ∷ 0 ∷ 0 ∷ 0 ∷ 0 ∷ 5 ∷ 1 ∷ 3 ∷ 2 ∷ 0 ∷ 9 ∷ []
 unfolding maps answer_to_frame sent_next course_next trick_at frames frames_in
 the_last_id = refl
@@ -161,7 +162,8 @@ sample = record {
   inputs = replicate 8 None ++ (Some 10 ∷ []);
 }
 
--- The device for the standard's examples of writes, which has coil 172 and registers 1 and 2.
+-- The simulated device for the Modbus standard's examples of writes, which has coil 172 and
+-- registers 1 and 2.
 abbrev writable : Maps
 writable = record { coils = replicate 172 None ++ (Some 0 ∷ []); discretes = []; holdings = None ∷ Some 0 ∷ Some 0 ∷ []; inputs = [] }
 

@@ -1,5 +1,6 @@
--- Lemmas about consecutive exchanges: the bytes that a simulated device reads and writes on a
--- connection.
+-- Lemmas about exchanges, which are the bytes that a simulated device reads and writes. A
+-- successful turn (one read and its responses) is an exchange, and consecutive exchanges form one
+-- exchange.
 use Rattle.std.proofs.Common.{◌≡◌, ℕ, false, List, [], ◌∷◌, ◌++◌, Ok, refl, sym, ap, ◌∙◌, subst}
 use Rattle.mb_wire.specs.Frames.{IsOpen, rest}
 use Rattle.mb_device.specs.Exchanges.{Exchange, Exchanges, ExchangesOver, InOrder, in_all, joined}

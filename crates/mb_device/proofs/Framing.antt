@@ -1,4 +1,5 @@
--- Lemmas about the frames of streams that arrive in chunks.
+-- Lemmas: the frames of a stream that arrives in chunks are the frames that its chunks complete,
+-- one after another.
 use Rattle.std.proofs.Common.{◌≡◌, ℕ, ◌+◌, ◌<◌, ◌⊎◌, inl, inr, List, [], ◌∷◌, ◌++◌, length, take, refl, sym, ap, ◌∙◌, subst, arith, append_assoc, length-append, lit<}
 use Rattle.std.specs.List.{flat_map, filter}
 use Rattle.std.proofs.lemmas.List.{append-nil, take_all}

@@ -1,4 +1,5 @@
--- Lemmas about loops that pack Modbus values into bytes, or store values from bytes.
+-- Lemmas about loops that pack Modbus values into bytes, or store values from bytes: each iteration
+-- adds one byte or value, and the finished loop has handled all.
 use Rattle.std.proofs.Common.{◌≡◌, ℕ, zero, suc, ◌+◌, ◌-◌, ◌*◌, ◌<◌, ◌≤◌, min, inl, inr, Bool, List, [], ◌∷◌, ◌++◌, length, take, drop, map, set, get_or, slice_get, Option, Some, true, subst, refl, sym, ap, ◌∙◌, arith, append_assoc, length-drop, length-take-le}
 use Rattle.std.proofs.lemmas.Bool.{cases_lt, and_parts, leb-true}
 use Rattle.std.specs.Option.{option_map}
@@ -26,7 +27,8 @@ packed_more count i coils out whole byte less room is h =
     ∙ ap (λ n. take i out ++ packed_in n (drop (8 * i) coils)) (sym left)
     ∙ h
 
--- The coils of one byte are at most eight consecutive values.
+-- The coils that one byte of a response encodes are at most eight consecutive values of the
+-- device's table of coils.
 pub eight : (f : Option ℕ → Bool) (values : List (Option ℕ)) (start end : ℕ) → start ≤ length values → end ≡ min (length values) (start + 8) → map f (take (end - start) (drop start values)) ≡ take 8 (drop start (map f values))
 eight f values start end fits is =
     let left : length (drop start values) ≡ length values - start = length-drop start values in
@@ -41,8 +43,8 @@ pub word_bytes-append : (xs ys : List ℕ) → word_bytes (xs ++ ys) ≡ word_by
 word_bytes-append [] ys = refl
 word_bytes-append (x ∷ xs) ys = ap (λ rest. word x ++ rest) (word_bytes-append xs ys)
 
--- After one more iteration of the loop that writes registers, one more register is in the data
--- bytes.
+-- After one more iteration of the loop that writes the registers of a response, the response's data
+-- bytes contain one more register.
 pub words_more : (f : Option ℕ → ℕ) (values : List (Option ℕ)) (i : ℕ) (d : Option ℕ) (old new : List ℕ) → i < length values → take (2 * i + 2) new ≡ take (2 * i) old ++ word (f (get_or values i d)) → take (2 * i) old ≡ word_bytes (map f (take i values)) → take (2 * (i + 1)) new ≡ word_bytes (map f (take (i + 1) values))
 words_more f values i d old new less step h =
     let next : 2 * (i + 1) ≡ 2 * i + 2 = omega arith in
@@ -56,7 +58,8 @@ get_some [] i h = absurd (omega arith)
 get_some (w ∷ ws) zero h = refl
 get_some (w ∷ ws) (suc i) h = get_some ws i (omega arith)
 
--- After one more iteration of the loop that stores values, one more value is in the table.
+-- After one more iteration of the loop that stores values in a device's table, one more value is in
+-- the table.
 pub written_more : (table whole : List (Option ℕ)) (place i : ℕ) (values : List ℕ) (value : Option ℕ) → i < length values → value ≡ slice_get values i → all_written table (place + i) (drop i values) ≡ whole → all_written (set table (place + i) value) (place + (i + 1)) (drop (i + 1) values) ≡ whole
 written_more table whole place i values value less is h =
     let next : place + (i + 1) ≡ place + i + 1 = omega arith in
@@ -65,7 +68,8 @@ written_more table whole place i values value less is h =
     ∙ sym (ap (all_written table (place + i)) (drop_more values i 0 less))
     ∙ h
 
--- If the loop that stores values has no value left to store, then it has stored all values.
+-- If the loop that stores values in a device's table has no value left to store, then it has stored
+-- all values.
 pub written_all : (table whole : List (Option ℕ)) (place i : ℕ) (values : List ℕ) → length values ≤ i → all_written table (place + i) (drop i values) ≡ whole → table ≡ whole
 written_all table whole place i values past h = sym (ap (all_written table (place + i)) (drop_all i values past)) ∙ h
 

@@ -1,4 +1,5 @@
--- Lemmas about consecutive responses with injected faults.
+-- Lemmas: the bytes sent for a response, and the connection's state after it, depend on the fault
+-- injected at its frame number and on the connection's state before.
 use Rattle.std.proofs.Common.{◌≡◌, ℕ, ◌-◌, ◌^◌, nat_lt, Bool, if◌then◌else◌, true, false, List, [], ◌∷◌, ◌++◌, Option, None, refl, sym, ap, ◌∙◌, append_assoc}
 use Rattle.std.specs.List.{flat_map}
 use Rattle.std.proofs.lemmas.List.{append-nil}
@@ -7,8 +8,9 @@ use Rattle.mb_wire.specs.Links.{risen}
 use Rattle.mb_device.specs.Tricks.{Course, Playing, CutOff, following, carried_out, course_after, course_in, course_next, cuts, first_trick, frame_of, is_cut, later_of, sent, sent_next, sent_of, spelled_by, trick_at, up_to_cut}
 use Rattle.mb_device.specs.declared.trick.Trick.{Trick}
 
--- The bytes sent for a response on an open connection depend on the fault injected at its frame
--- number and on the delayed response.
+-- On an open connection, three things determine the bytes that the simulated device sends for a
+-- response. These are the response, the fault injected at its frame number, and an earlier, delayed
+-- response.
 pub sends : (course : Course) (cut : Bool) (tricks : List (ℕ × Trick)) (number : ℕ) (later : List ℕ) (answer : Fields) → course ≡ course_in cut tricks number later → is_cut course ≡ false
     → sent_next course answer ≡ sent_of (trick_at tricks number) (spelled_by (trick_at tricks number) answer) later
 unfolding sent_next
@@ -16,7 +18,7 @@ sends course true tricks number later answer is going = let both : true ≡ fals
 sends course false tricks number later answer is going = ap (λ c. sent_next c answer) is
 
 -- The state of an open connection after a response depends on the fault injected at the response's
--- frame number and on the state before.
+-- frame number and on the connection's state before the response.
 pub goes_on : (course : Course) (cut : Bool) (tricks : List (ℕ × Trick)) (number : ℕ) (later : List ℕ) (answer : Fields) → course ≡ course_in cut tricks number later → is_cut course ≡ false
     → course_next course answer ≡ following (trick_at tricks number) (spelled_by (trick_at tricks number) answer) course
 unfolding course_next
@@ -50,7 +52,8 @@ pub is_cut-true : (course : Course) → is_cut course ≡ true → course ≡ Cu
 is_cut-true (Playing tricks number later) cut = absurd cc
 is_cut-true CutOff cut = refl
 
--- Lemmas on the frames that a simulated device executes.
+-- Lemmas on the frames that a simulated device executes: on an open connection, these are the first
+-- frame and the frames executed after it.
 
 pub carried_out-none : (course : Course) → carried_out course [] ≡ []
 carried_out-none (Playing tricks number later) = refl
@@ -70,7 +73,8 @@ pub carried_out-one : (course : Course) (answer : Fields) (frame : List ℕ) →
 carried_out-one course answer frame going =
     carried_out-next course answer frame [] going ∙ ap (λ fs. frame ∷ fs) (carried_out-none (course_next course answer))
 
--- Lemmas on connections without injected faults, or after the last frame with an injected fault.
+-- Lemmas on connections without injected faults, or after the last frame with an injected fault:
+-- the device sends its responses unchanged.
 
 either_none : (b : Bool) (one other : Option Trick) → one ≡ None → other ≡ None → (if b then one else other) ≡ None
 either_none true one other first next = first

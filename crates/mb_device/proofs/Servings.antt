@@ -1,5 +1,6 @@
--- Lemmas about consecutive turns of a simulated device. A turn is one read, followed by the
--- responses to the frames that the read completed.
+-- Lemmas: the effects of consecutive turns of a simulated device together are those of one call of
+-- `serve`, which serves a connection until its end. A turn is one read, followed by the responses
+-- to the frames that the read completed.
 use Rattle.std.proofs.Common.{◌≡◌, ℕ, ◌+◌, Bool, true, false, not, List, [], ◌++◌, length, Option, Result, Ok, Err, refl, sym, ap, ◌∙◌, subst}
 use Rattle.std.specs.Prelude.{◌&&◌}
 use Rattle.std.proofs.KnownBytes.{Consumes-trans, Keeps-refl}
@@ -70,8 +71,9 @@ Served-more buffered course count turned a b c before after so_far serving turns
           (counts_then course left a.maps b.maps (own_frames bytes) (buffered ++ (so_far.taken ++ turn.taken)) (rest bytes ++ turn.taken) turned.answered dealt more.0 more.1 turn.reports.0);
     }
 
--- If a turn (one read and its responses) found the end of the input, or an injected fault closed
--- the connection, `serve` returns. Its effects are those that `Serves` defines.
+-- Suppose that a turn (one read and its responses) found the end of the input, or an injected fault
+-- closed the connection. Then `serve` returns, and its effects (frames executed, bytes sent)
+-- satisfy its contract `Serves`.
 pub Serves-end : (buffered : List ℕ) (course : Course) (count : ℕ) (turned : Turned) (a b c : Around) (before after : Standing) → Served buffered course count a b before → is_serving before ≡ true
     → ((later : List ℕ) (mid : Course) → before ≡ Holds later mid → Turns later mid (Ok turned) b c after) → turned.ended ≡ true → Serves buffered course (Ok (count + turned.answered)) a c after
 unfolding Served-more
@@ -92,8 +94,8 @@ Serves-end buffered course count turned a b c before after so_far serving turns 
       reports = (all.counts, λ going. (turn.reports.1.end (ap is_cut (sym same) ∙ going) ended).1);
     }
 
--- If `serve` made all allowed reads and the input has not ended, then the result `TurnsUsed` has
--- the effects that `Serves` defines.
+-- Suppose that the function `serve` made all allowed reads, and the input has not ended. Then it
+-- returns `TurnsUsed`, and its effects (frames executed, bytes sent) satisfy its contract `Serves`.
 pub Serves-used : (buffered : List ℕ) (course : Course) (count : ℕ) (a b : Around) (before : Standing) → Served buffered course count a b before → is_serving before ≡ true → Serves buffered course (Err fault.TurnsUsed) a b Faulted
 Serves-used buffered course count a b before so_far serving =
     let dealt = reached buffered course count a b before so_far serving in
@@ -115,7 +117,8 @@ serve_reports_fault fault.Garbled buffered taken more course left maps after rem
     garbled_then course left maps after (own_frames (buffered ++ taken)) (buffered ++ (taken ++ more)) (rest (buffered ++ taken) ++ more) dealt same.0 same.1 reports
 serve_reports_fault fault.TurnsUsed buffered taken more course left maps after remaining is_open dealt reports = absurd reports
 
--- The function `serve` returns the fault that its last turn (read) returned.
+-- If a turn (one read and its responses) of the simulator's function `serve` returns a fault, then
+-- `serve` returns this fault.
 pub Serves-fault : (e : ServeFault) (buffered : List ℕ) (course : Course) (count : ℕ) (a b c : Around) (before after : Standing) → Served buffered course count a b before → is_serving before ≡ true
     → ((later : List ℕ) (mid : Course) → before ≡ Holds later mid → Turns later mid (Err e) b c after) → Serves buffered course (Err e) a c after
 Serves-fault e buffered course count a b c before after so_far serving turns =
@@ -133,7 +136,9 @@ Serves-fault e buffered course count a b c before after so_far serving turns =
       reports = serve_reports_fault e buffered so_far.taken turn.taken course left a.maps b.maps c.remaining (so_far.counts.is_open dealt.going) dealt turn.reports;
     }
 
--- Lemmas on a simulated device whose connection is still open.
+-- Lemmas: if the connection of a simulated device is open and none of its calls failed, its state
+-- has buffered bytes. It keeps serving while no turn (one read and its responses) reports the end
+-- of the input.
 
 pub has_not_failed : (standing : Standing) (failed over : Bool) → failed ≡ has_faulted standing → failed ≡ false → over ≡ is_over standing → over ≡ false → is_serving standing ≡ true
 has_not_failed (Holds buffered course) failed over is none was going = refl
@@ -173,13 +178,14 @@ goes_on result turned after last reports is going =
     let second : is_read_fault result ≡ false = ap is_read_fault is in
     record { answer = reports.answer; taken = reports.taken; end = sym first ∙ reports.end; failure = sym second ∙ reports.failure }
 
--- If a turn (one read and its responses) did not report the end of the input, it did not increase
--- the number of ends found.
+-- If a turn (one read and its responses) did not report the end of the input, the count of ends of
+-- the input that reads found is unchanged.
 pub counts_no_end : (result : Result Turned ServeFault) (turned : Turned) (standing : Standing) (before after : ℕ) → after ≡ risen (came_to_end result standing) before → result ≡ Ok turned → turned.ended ≡ false → after ≡ before
 counts_no_end result turned standing before after counted is going = counted ∙ ap (λ (b : Bool). risen b before) (no_end result turned standing is going)
 
--- If the last turn (read) of `serve` reported the end, then `serve` found the end of the input
--- exactly if that turn did.
+-- Suppose that the last turn (one read and its responses) of `serve`, which serves a connection
+-- until its end, reported the end of the connection. Then `serve` found the end of the input
+-- exactly if that turn's read found it.
 pub same_end : (result : Result Turned ServeFault) (turned : Turned) (count : ℕ) (after : Standing) → result ≡ Ok turned → turned.ended ≡ true → came_to_end result after ≡ served_to_end (Ok count) after
 same_end result turned count after is ended = ap (λ r. came_to_end r after) is ∙ ap (λ b. b && not (is_over after)) ended
 

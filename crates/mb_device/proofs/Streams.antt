@@ -1,4 +1,5 @@
--- Lemmas about responses, with injected faults, to the frames of streams that arrive in chunks.
+-- Lemmas about responses, with injected faults, to the frames of streams that arrive in chunks:
+-- responding to `xs ++ ys` equals responding to `xs`, and then to `ys`.
 use Rattle.std.proofs.Common.{◌≡◌, ℕ, ◌+◌, ◌≤◌, Bool, true, false, List, [], ◌∷◌, ◌++◌, length, take, Option, Some, None, Result, Ok, Err, refl, sym, ap, ◌∙◌, subst, arith, append_assoc, length-append, length-take}
 use Rattle.std.specs.Option.{option_map}
 use Rattle.std.specs.Io.KnownBytes.{Appends, Consumes, IsAtEnd, Keeps}
@@ -51,7 +52,7 @@ carried_out-append (Playing tricks number later) maps (x ∷ xs) ys =
     ∙ ap (λ fs. fs ++ carried_out (course_after_all course maps (x ∷ xs)) ys) (sym (carried_out-next course answer x xs refl))
 carried_out-append CutOff maps (x ∷ xs) ys = ap (λ c. carried_out c ys) (sym (course_after-cut (answers maps (x ∷ xs))))
 
--- Lemmas on a simulated device whose connection is open.
+-- Lemmas on a simulated device whose connection is open: it executed all frames that it read.
 
 -- If a connection is still open after some frames, then the simulated device executed all of these
 -- frames.
@@ -64,8 +65,8 @@ uncut (Playing tricks number later) maps (x ∷ xs) going =
 uncut CutOff maps (x ∷ xs) going =
     absurd (both_ways _ (ap is_cut (course_after-cut (answers maps (x ∷ xs)))) going)
 
--- True if the simulated device executed all frames of the list on a connection that remained open,
--- with the resulting connection state and register map.
+-- True if a simulated device executed all frames of the list on a connection that remained open.
+-- Also requires that the given connection state and register map are those after these frames.
 pub record Dealt (course : Course) (maps : Maps) (xs : List (List ℕ)) (mid : Course) (after : Maps) : Type 0 where
   pub stands : mid ≡ course_after_all course maps xs
   pub going : is_cut mid ≡ false
@@ -103,7 +104,7 @@ carried_then course mid maps after xs ys dealt =
 pub AllAnswered-same : (course : Course) (xs ys : List (List ℕ)) (a b : Around) → ys ≡ xs → AllAnswered course xs a b → AllAnswered course ys a b
 AllAnswered-same course xs ys a b same h = subst (λ fs. AllAnswered course fs a b) (sym same) h
 
--- If nothing was written, the output of the connection is unchanged.
+-- If nothing was written to a connection, the output of the connection is unchanged.
 Appends-none : (a b : Option (List ℕ)) → Keeps a b → Appends a b []
 Appends-none None b h = tt
 Appends-none (Some x) None h = absurd h
@@ -154,8 +155,8 @@ all_then_broken course mid xs ys a b c first dealt next =
           ∙ sym (maps_after_all-append a.maps xs upto) ∙ ap (maps_after_all a.maps) (sym all);
     }
 
--- If a simulated device answered all frames of a list, then the contract `Answered` for the
--- following frames implies `Answered` for both lists together.
+-- If a simulated device answered all frames of a list, then the contract `Answered` (which
+-- responses were sent) for the following frames implies `Answered` for both lists together.
 pub Answered-then : {X : Type 0} (result : Result X ServeFault) (course mid : Course) (xs ys : List (List ℕ)) (a b c : Around) → AllAnswered course xs a b → Dealt course a.maps xs mid b.maps → Answered result mid ys b c → Answered result course (xs ++ ys) a c
 Answered-then (Ok x) course mid xs ys a b c first dealt next = all_then_all course mid xs ys a b c first dealt next
 Answered-then (Err fault.Read) course mid xs ys a b c first dealt next = all_then_all course mid xs ys a b c first dealt next
@@ -209,7 +210,8 @@ piece_fault fault.Write course mid maps after xs bytes left buffered new dealt f
 piece_fault fault.Garbled course mid maps after xs bytes left buffered new dealt frames rests reports = garbled_then course mid maps after xs bytes left dealt frames rests reports
 piece_fault fault.TurnsUsed course mid maps after xs bytes left buffered new dealt frames rests reports = reports
 
--- Lemmas on a connection that an injected fault closed.
+-- Lemmas on a connection that an injected fault closed: the device executes no later frame and
+-- sends nothing for it.
 
 sent_cut : (course : Course) (maps : Maps) (xs ys : List (List ℕ)) → is_cut (course_after_all course maps xs) ≡ true → sent_to course maps (xs ++ ys) ≡ sent_to course maps xs
 sent_cut course maps xs ys cut =
@@ -245,7 +247,8 @@ cut_reports count course maps xs ys bytes buffered frames cut counted =
     let still : is_cut (course_after_all course maps (own_frames bytes)) ≡ true = ap is_cut same ∙ cut in
     (record { counted = counted ∙ sym (ap length all); is_open = λ going. absurd (both_ways _ still going) }, λ going. absurd (both_ways _ still going))
 
--- Lemmas on the complete frame that the reader of frames has buffered.
+-- Lemmas: the reader of frames returns the fields of the complete frame that it has buffered. If
+-- sending the response to this frame fails, the response is incomplete.
 
 -- If the reader of frames returns a parsed frame, then it has buffered the bytes of a frame with
 -- the same fields.
@@ -304,9 +307,10 @@ buffered_fault fault.Write course frame xs ys a b reports h = BrokenOff-before c
 buffered_fault fault.Garbled course frame xs ys a b reports h = absurd reports
 buffered_fault fault.TurnsUsed course frame xs ys a b reports h = absurd reports
 
--- Lemmas on one turn: one read, and the responses to the frames that the read completed.
+-- Lemmas on one turn (one read, and the responses to the frames that it completed). For each result
+-- of the read, the turn's effects satisfy its contract `Turns` (frames executed, bytes sent).
 
--- If nothing was read, the input of the connection is unchanged.
+-- If nothing was read from a connection, the input of the connection is unchanged.
 pub Consumes-none : (a b : Option (List ℕ)) → Keeps a b → Consumes a b []
 Consumes-none None b h = tt
 Consumes-none (Some x) None h = absurd h
@@ -369,8 +373,8 @@ answered_from result course frames old mid new given maps going answered =
     let none = AllAnswered-none course [] old mid refl given maps in
     Answered-then result course course [] frames old mid new none (dealt_with course course [] old mid none refl going) answered
 
--- A fault while a device answers frames has the same effects, whatever type the successful result
--- has. A function can therefore return the fault of a function that it calls.
+-- The contract `Answered` of a failure while a device answers frames does not depend on the type of
+-- the successful result. A function can therefore return the fault of a function that it calls.
 pub answered_fault : (X Y : Type 0) (e : ServeFault) (course : Course) (fs : List (List ℕ)) (a b : Around) → Answered {X = X} (Err e) course fs a b → Answered {X = Y} (Err e) course fs a b
 answered_fault X Y fault.Read course fs a b h = h
 answered_fault X Y fault.Write course fs a b h = h

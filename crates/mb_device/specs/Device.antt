@@ -47,33 +47,34 @@ kept_value value = unwrap_or value 0
 abbrev pub is_kept_on : Option ℕ → Bool
 is_kept_on value = not (kept_value value == 0)
 
--- The given response if the device has all `count` addresses, otherwise exception 2 (illegal data
--- address).
+-- The given response if the device has all `count` addresses from `address` on, otherwise exception
+-- 2 (illegal data address).
 abbrev pub if_there : List (Option ℕ) → (address count : ℕ) → Answer → Answer
 if_there table address count answer =
     if are_there table address count then answer else Exception 2
 
 -- The response to a read of coils or discrete inputs, or exception 2 if the device does not have
--- all of them.
+-- all of the addresses.
 abbrev pub bits_at : List (Option ℕ) → (address quantity : ℕ) → Answer
 bits_at table address quantity =
     if_there table address quantity (Bits (map is_kept_on (values_at table address quantity)))
 
--- The response to a read of registers, or exception 2 if the device does not have all of them.
+-- The response to a read of registers, or exception 2 if the device does not have all of the
+-- addresses.
 abbrev pub words_at : List (Option ℕ) → (address quantity : ℕ) → Answer
 words_at table address quantity =
     if_there table address quantity (Words (map kept_value (values_at table address quantity)))
 
--- The table after a write of coils. The table is unchanged if the device does not have all of the
--- addresses.
+-- The device's table of coils after a write. The table is unchanged if the device does not have all
+-- of the addresses.
 abbrev pub coils_written : List (Option ℕ) → (address : ℕ) → List Bool → List (Option ℕ)
 coils_written table address coils =
     if are_there table address (length coils)
     then all_written table address (map coil_number coils)
     else table
 
--- The table after a write of registers. The table is unchanged if the device does not have all of
--- the addresses.
+-- The device's table of holding registers after a write. The table is unchanged if the device does
+-- not have all of the addresses.
 abbrev pub words_written : List (Option ℕ) → (address : ℕ) → List ℕ → List (Option ℕ)
 words_written table address words =
     if are_there table address (length words) then all_written table address words else table

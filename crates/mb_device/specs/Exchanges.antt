@@ -26,8 +26,9 @@ in_all exchanges =
       given = flat_map (λ exchange. exchange.given) exchanges;
     }
 
--- True if the bytes written are the responses to all Modbus frames that the bytes read complete.
--- Also requires that the new register map and connection state are those after these frames.
+-- True if the bytes written are the responses to those Modbus frames that are complete after the
+-- bytes read. Also requires that the new register map and connection state are those after these
+-- frames.
 pub record Exchanges (buffered : List ℕ) (course : Course) (exchange : Exchange) (old new : Maps)
     (standing : Standing) : Type 0 where
   pub given : exchange.given ≡ sent_to course old (own_frames (buffered ++ exchange.taken))

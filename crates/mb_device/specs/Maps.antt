@@ -25,7 +25,8 @@ table_of maps Input = maps.inputs
 abbrev pub value_in : List (Option ℕ) → ℕ → Option ℕ
 value_in table address = slice_index_or table address None
 
--- The value of this kind at an address, or `None` if the device does not have the address.
+-- The value of the given kind (such as holding registers) at an address, or `None` if the device
+-- does not have the address.
 abbrev pub value_at : Maps → Kind → ℕ → Option ℕ
 value_at maps kind address = value_in (table_of maps kind) address
 
@@ -42,13 +43,14 @@ kept Discrete value = if value == 0 then 0 else 1
 kept Holding value = value
 kept Input value = value
 
--- The table after a write of one value. The table is unchanged if the device does not have the
--- address.
+-- A table of a device's values after a write of one value. The table is unchanged if the device
+-- does not have the address.
 abbrev pub written : List (Option ℕ) → ℕ → ℕ → List (Option ℕ)
 written table address value =
     if is_some (value_in table address) then slice_set table address (Some value) else table
 
--- The register map with its table of one kind replaced.
+-- The register map `maps` with a new table for one kind of values (coils, discrete inputs, holding
+-- registers or input registers).
 abbrev pub with_table : Maps → Kind → List (Option ℕ) → Maps
 with_table maps Coil table =
     record {
@@ -86,7 +88,8 @@ are_there table address count =
     nat_le (address + count) (length table)
     && list_all (λ value. is_some value) (values_at table address count)
 
--- The table after a list of values is written at consecutive addresses from the given address on.
+-- A table of a device's values after a list of values is written at consecutive addresses from the
+-- given address on.
 abbrev pub all_written : List (Option ℕ) → ℕ → List ℕ → List (Option ℕ)
 all_written table address [] = table
 all_written table address (value ∷ values) =

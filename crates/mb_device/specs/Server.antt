@@ -24,7 +24,7 @@ use Rattle.mb_device.specs.declared.server.Turned.{Turned}
 abbrev pub is_own : List ℕ → Bool
 is_own frame = protocol_of frame == 0
 
--- The Modbus frames that a byte list completes, in order.
+-- The complete Modbus frames in a byte list, in order, without the frames of other protocols.
 abbrev pub own_frames : List ℕ → List (List ℕ)
 own_frames bytes = filter is_own (frames bytes)
 
@@ -34,8 +34,8 @@ unfoldable pub answer_to_frame : Maps → List ℕ → Fields
 answer_to_frame maps frame =
     answer_of (tid_of frame) (unit_of frame) (answer_to maps (pdu_of frame))
 
--- The true responses to a list of frames, in order. Each response is computed from the register map
--- after the earlier frames.
+-- The true responses (before injected faults change them) to a list of frames, in order. Each
+-- response is computed from the register map after the earlier frames.
 abbrev pub answers : Maps → List (List ℕ) → List Fields
 answers maps [] = []
 answers maps (frame ∷ frames) =
@@ -46,12 +46,12 @@ abbrev pub maps_after_all : Maps → List (List ℕ) → Maps
 maps_after_all maps [] = maps
 maps_after_all maps (frame ∷ frames) = maps_after_all (maps_after maps (pdu_of frame)) frames
 
--- The bytes that a server sends for a list of frames: the true responses, changed by injected
+-- The bytes that a server sends for a list of frames: the device's responses, changed by injected
 -- faults.
 abbrev pub sent_to : Course → Maps → List (List ℕ) → List ℕ
 sent_to course maps frames = sent course (answers maps frames)
 
--- The state of a connection after a list of frames.
+-- The state of a connection after the server of a simulated device handled a list of frames.
 abbrev pub course_after_all : Course → Maps → List (List ℕ) → Course
 course_after_all course maps frames = course_after course (answers maps frames)
 
@@ -70,13 +70,14 @@ standing_on bytes (Playing tricks number later) = Holds bytes (Playing tricks nu
 standing_on bytes CutOff = Over
 
 -- The bytes that the client will send, the bytes sent to the client, and the register map of a
--- simulated device. Bytes are `None` if they are unknown.
+-- simulated device. Bytes are `None` if the connection's type does not specify them.
 pub record Around : Type 0 where
   pub remaining : Option (List ℕ)
   pub given : Option (List ℕ)
   pub maps : Maps
 
--- Combines the bytes to receive, the bytes sent, and the register map of a simulated device.
+-- Makes one record of three values of a simulated device: the bytes it still receives, the bytes it
+-- sent, and its register map.
 abbrev pub around : Option (List ℕ) → Option (List ℕ) → Maps → Around
 around remaining given maps = record { remaining = remaining; given = given; maps = maps }
 
@@ -102,8 +103,8 @@ pub record BrokenOff (course : Course) (frames : List (List ℕ)) (old new : Aro
   pub given : Appends old.given new.given (sent_to course old.maps earlier ++ part)
   pub maps : new.maps ≡ maps_after_all old.maps (earlier ++ frame ∷ [])
 
--- States, for each result of a call, which frames were executed and which bytes were sent. Only
--- after a failed write is a response incomplete.
+-- States, for each result of a call that responds to a list of frames, which frames were executed
+-- and which bytes were sent. Only after a failed write is a response incomplete.
 abbrev pub Answered : {X : Type 0} → Result X ServeFault → Course → List (List ℕ) → Around → Around
     → Type 0
 Answered (Ok x) course frames old new = AllAnswered course frames old new
@@ -112,8 +113,8 @@ Answered (Err Write) course frames old new = BrokenOff course frames old new
 Answered (Err Garbled) course frames old new = AllAnswered course frames old new
 Answered (Err TurnsUsed) course frames old new = AllAnswered course frames old new
 
--- The state of a simulated device after a call with this result. The byte list has the bytes
--- buffered before the call, followed by the bytes that the call read.
+-- The state of a simulated device after a call of `turn` or `serve` with this result. The byte list
+-- has the bytes buffered before the call, followed by the bytes that the call read.
 abbrev pub standing_after : {X : Type 0} → Result X ServeFault → List ℕ → Course → Standing
 standing_after (Ok x) bytes course = standing_on (rest bytes) course
 standing_after (Err fault) bytes course = Faulted
@@ -125,7 +126,8 @@ pub record Stretch : Type 0 where
   pub before : Course
   pub left : Course
 
--- Combines a part of the input of a connection with the connection's state before and after it.
+-- A part `bytes` of the input of a connection to the simulated device, with the connection's state
+-- before it (`course`) and after all complete frames in it.
 abbrev pub stretch : Course → Maps → List ℕ → Stretch
 stretch course maps bytes =
     record { bytes = bytes; before = course; left = course_after_all course maps (own_frames bytes) }
@@ -211,7 +213,7 @@ pub record ReportsTake (ended failed : Bool) (last : Option LastTake) : Type 0 w
   pub failure : failed ≡ is_err answer
 
 -- The effects of one turn of a device, which is one read and the responses to the frames that it
--- completed. The device had buffered the bytes `buffered` of an incomplete frame.
+-- completed. Before the read, the device held the bytes `buffered` of an incomplete frame.
 pub record Turns (buffered : List ℕ) (course : Course) (result : Result Turned ServeFault)
     (old new : Around) (standing : Standing) : Type 0 where
   pub taken : List ℕ
@@ -235,8 +237,9 @@ pub record Served (buffered : List ℕ) (course : Course) (count : ℕ) (old new
       (course_after_all course old.maps (own_frames (buffered ++ taken)))
   pub counts : Counts count (stretch course old.maps (buffered ++ taken))
 
--- The effects of `serve`, which repeats reads and responses until the input ends. The device had
--- buffered the bytes `buffered` of an incomplete frame.
+-- The effects of the simulated device's function `serve`, which repeats reads and responses until
+-- the input of its connection ends. They are the bytes read and sent, and the changed register map.
+-- Before the call, the device held the bytes `buffered` of an incomplete frame.
 pub record Serves (buffered : List ℕ) (course : Course) (result : Result ℕ ServeFault)
     (old new : Around) (standing : Standing) : Type 0 where
   pub taken : List ℕ
@@ -247,21 +250,21 @@ pub record Serves (buffered : List ℕ) (course : Course) (result : Result ℕ S
       (course_after_all course old.maps (own_frames (buffered ++ taken)))
   pub reports : ServeReports result (stretch course old.maps (buffered ++ taken)) new.remaining
 
--- States that, if the connection of a device in the state `held` is open, then `serve` has the
--- effects that `Serves` defines.
+-- States that, if the connection of a device in the state `held` is open, then the effects of the
+-- function `serve` (frames executed, bytes sent) satisfy its contract `Serves`.
 abbrev pub ServesFrom : (held : Standing) → Result ℕ ServeFault → (old new : Around)
     → (standing : Standing) → Type 0
 ServesFrom held result old new standing =
     (buffered : List ℕ) (course : Course) → held ≡ Holds buffered course →
     Serves buffered course result old new standing
 
--- The complete frame that the reader has buffered, as a list of one frame; otherwise the empty
--- list.
+-- The complete frame that the reader of frames has buffered, as a list of one frame; otherwise the
+-- empty list.
 abbrev pub buffered_frames : Option (List ℕ) → List (List ℕ)
 buffered_frames None = []
 buffered_frames (Some frame) = frame ∷ []
 
--- True if the reader has buffered no frame, or the buffered frame is complete.
+-- True if the reader of frames has buffered no frame, or the buffered frame is complete.
 abbrev pub HoldsFrame : Option (List ℕ) → Type 0
 HoldsFrame None = Unit {0}
 HoldsFrame (Some frame) = IsFrame frame
@@ -285,32 +288,34 @@ PieceReports (Err Write) stretch buffered = Unit {0}
 PieceReports (Err Garbled) stretch buffered = IsGarbled stretch
 PieceReports (Err TurnsUsed) stretch buffered = ⊥
 
--- The state of a device after a turn (one read and its responses) with this result.
+-- The state of a simulated device on a connection after a turn (one read and its responses), from
+-- the turn's result: `Faulted` after a fault.
 abbrev pub standing_in : {X : Type 0} → Result X ServeFault → Buffered → Course → Standing
 standing_in (Ok x) reader course = standing_on reader.rest course
 standing_in (Err fault) reader course = Faulted
 
--- All state of a device before or after a turn: the buffered bytes, the connection, the bytes to
--- receive and sent, and the register map.
+-- All state of a device before or after a turn (one read and its responses): the buffered bytes,
+-- the connection, the bytes to receive and sent, and the register map.
 pub record Scene : Type 0 where
   pub reader : Buffered
   pub course : Course
   pub around : Around
 
--- Combines the state of a device before or after a turn: buffered bytes, connection, bytes to
--- receive and sent, and register map.
+-- Combines the state of a device before or after a turn (one read and its responses): buffered
+-- bytes, connection, bytes to receive and sent, and register map.
 abbrev pub scene : Buffered → Course → (remaining given : Option (List ℕ)) → Maps → Scene
 scene reader course remaining given maps =
     record { reader = reader; course = course; around = around remaining given maps }
 
 -- True if a turn (one read and its responses) from the state `old` to the state `new` has the
--- effects that `Turns` defines.
+-- effects (frames executed, bytes sent) that its contract `Turns` allows.
 abbrev pub TakesTurn : Result Turned ServeFault → (old new : Scene) → Type 0
 TakesTurn result old new =
     Turns old.reader.rest old.course result old.around new.around
     (standing_in result new.reader new.course)
 
--- True if the result is a failed read from the connection or a failed write to it.
+-- True if a call of a simulated device's server failed because a read from the connection or a
+-- write to it failed.
 abbrev pub is_link_fault : {X : Type 0} → Result X ServeFault → Bool
 is_link_fault (Ok x) = false
 is_link_fault (Err Read) = true

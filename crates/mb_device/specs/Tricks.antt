@@ -1,5 +1,5 @@
--- Defines the bytes that a server sends instead of its true responses when faults are injected. A
--- `Trick` is an injected fault.
+-- Defines the bytes that a server sends instead of its true (unchanged) responses when faults are
+-- injected. A `Trick` is an injected fault.
 use Rattle.std.specs.Prelude.{ℕ, ◌+◌, ◌-◌, ◌^◌, ◌%◌, ◌==◌, nat_lt, Bool, true, false, if◌then◌else◌, List, [], ◌∷◌, ◌++◌, take, find, Some, None}
 use Rattle.std.specs.Option.{option_map}
 use Rattle.std.specs.declared.option.Option.{Option}
@@ -17,7 +17,7 @@ answer_of tid unit pdu = record { tid = tid; unit = unit; pdu = pdu }
 abbrev pub frame_of : Fields → List ℕ
 frame_of answer = spelling answer.tid answer.unit answer.pdu
 
--- The first fault in the list that applies to this frame number, or `None`.
+-- The first injected fault in the list that applies to this frame number, or `None`.
 abbrev pub first_trick : List (ℕ × Trick) → ℕ → Option Trick
 first_trick tricks number =
     option_map (λ (t : ℕ × Trick). t.1) (find (λ (t : ℕ × Trick). t.0 == number) tricks)
@@ -26,8 +26,8 @@ first_trick tricks number =
 unfoldable pub trick_at : List (ℕ × Trick) → ℕ → Option Trick
 trick_at tricks number = if nat_lt number (2 ^ 64 - 1) then first_trick tricks number else None
 
--- The bytes of a response's frame, as an injected fault changes them. Three kinds of faults change
--- the header.
+-- The bytes of a response's frame, as an injected fault changes them. The faults `Id`, `Unit` and
+-- `Garble` change the header.
 abbrev pub spelled_by : Option Trick → Fields → List ℕ
 spelled_by None answer = frame_of answer
 spelled_by (Some play.Drop) answer = frame_of answer
@@ -39,8 +39,8 @@ spelled_by (Some play.Garble) answer =
     word answer.tid ++ word 0 ++ word 0 ++ answer.unit ∷ answer.pdu
 spelled_by (Some (play.Cut count)) answer = frame_of answer
 
--- The bytes sent after a frame is executed: the response as the fault changes it, followed by the
--- delayed response to an earlier frame.
+-- The bytes sent after a frame is executed: the response as the injected fault changes it, followed
+-- by the delayed response to an earlier frame.
 abbrev pub sent_of : Option Trick → List ℕ → List ℕ → List ℕ
 sent_of None frame later = frame ++ later
 sent_of (Some play.Drop) frame later = later
@@ -58,12 +58,13 @@ pub data Course : Type 0 where
   Playing : List (ℕ × Trick) → ℕ → List ℕ → Course
   CutOff : Course
 
--- The state of a connection with these injected faults before its first frame.
+-- The state of a simulated device's connection before its first frame. `tricks` has the faults that
+-- will be injected, each at a numbered frame.
 abbrev pub begun : List (ℕ × Trick) → Course
 begun tricks = Playing tricks 1 []
 
--- The state of a connection, built from the fields of its sender. The `Bool` is true if an injected
--- fault closed the connection.
+-- The state of a connection, built from the fields of the object that sends its responses. The
+-- `Bool` is true if an injected fault closed the connection.
 abbrev pub course_in : Bool → List (ℕ × Trick) → ℕ → List ℕ → Course
 course_in true tricks number later = CutOff
 course_in false tricks number later = Playing tricks number later
@@ -116,12 +117,14 @@ course_next (Playing tricks number later) answer =
     (Playing tricks number later)
 course_next CutOff answer = CutOff
 
--- The bytes that a connection sends for a list of true responses, as injected faults change them.
+-- The bytes that a connection sends for a list of responses, after injected faults changed the
+-- responses.
 abbrev pub sent : Course → List Fields → List ℕ
 sent course [] = []
 sent course (answer ∷ answers) = sent_next course answer ++ sent (course_next course answer) answers
 
--- The state of a connection after a list of responses.
+-- The state of a simulated device's connection (such as its injected faults) after it sent a list
+-- of responses.
 abbrev pub course_after : Course → List Fields → Course
 course_after course [] = course
 course_after course (answer ∷ answers) = course_after (course_next course answer) answers

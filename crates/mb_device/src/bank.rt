@@ -40,14 +40,16 @@ impl Model for Bank {
     } };
 }
 
-// Returns whether `area` shares an address of its kind with any area in `others`.
+// Returns whether `area`, a range of addresses of one kind (such as holding registers), shares an
+// address with an area of the same kind in `others`.
 fn overlaps_any(area: &Area, others: &[Area]) -> bool
     ensures { result ≡ list_any (λ other. overlap area.now other) others.now }
 {
     others.iter().any(|other| area.overlaps(other))
 }
 
-// Returns whether two areas of the same kind share an address.
+// Returns whether any two areas in the list have the same kind and share an address. An area is a
+// range of addresses of one kind, such as holding registers.
 fn has_overlap(areas: &[Area]) -> bool
     ensures { result ≡ any_overlap areas.now }
 {
@@ -57,21 +59,24 @@ fn has_overlap(areas: &[Area]) -> bool
     }
 }
 
-// Returns whether an area in the list is empty or extends past address 65535.
+// Returns whether an area (a range of addresses of one kind, such as holding registers) in the list
+// is empty or extends past address 65535.
 fn has_out_of_range(areas: &[Area]) -> bool
     ensures { result ≡ list_any is_out_of_range areas.now }
 {
     areas.iter().any(|area| area.is_out_of_range())
 }
 
-// Returns whether an area in the list contains this address of this kind.
+// Returns whether an area (a range of addresses) in the list has the given kind and contains the
+// given address.
 fn any_contains(areas: &[Area], kind: Kind, address: u64) -> bool
     ensures { result ≡ list_any (λ area. contains kind address area) areas.now }
 {
     areas.iter().any(|area| area.contains(kind, address))
 }
 
-// Returns the initial value at an address: 0, or `None` if no area contains the address.
+// Returns the initial value at an address of the given kind: 0, or `None` if no area (address
+// range) of this kind contains the address.
 fn begin(areas: &[Area], kind: Kind, address: u64) -> Option<u16>
     ensures { result ≡ first_value areas.now kind address }
 {
@@ -82,7 +87,8 @@ fn begin(areas: &[Area], kind: Kind, address: u64) -> Option<u16>
     }
 }
 
-// Creates the initial table of one kind of values from the areas of the device.
+// Creates the initial table of one kind of values (such as holding registers) from the areas
+// (address ranges) of the device.
 fn begin_table(alloc: Global, areas: &[Area], kind: Kind) -> Result<Vec<Option<u16>>, AllocError>
     ensures values { IfOk result (λ table. BeginsAs areas.now kind table.items) }
     ensures end { IfOk result (λ table. length table.items ≡ ADDRESSES) }
@@ -94,14 +100,16 @@ fn begin_table(alloc: Global, areas: &[Area], kind: Kind) -> Result<Vec<Option<u
     Ok(table)
 }
 
-// Returns whether the device has at least one of the addresses in this part of a table.
+// Returns whether the device has at least one of the addresses in a part `values` of a table. An
+// address that the device does not have has the value `None`.
 fn any_some(values: &[Option<u16>]) -> bool
     ensures { result ≡ list_any (λ value. is_some value) values.now }
 {
     values.iter().any(|value| value.is_some())
 }
 
-// Returns whether the device has at least one of the `count` addresses of the table from `start`.
+// Returns whether the device has at least one of the `count` addresses from `start` on. `table` has
+// an entry for each address of one kind, `None` for an address that the device does not have.
 #[tactic(auto, using(crate::proofs::Adding::cut))]
 fn has_some(table: &[Option<u16>], start: usize, count: usize) -> bool
     ensures { result ≡ list_any (λ value. is_some value) (values_at table.now start count) }
@@ -110,7 +118,8 @@ fn has_some(table: &[Option<u16>], start: usize, count: usize) -> bool
     any_some(&rest[..count.min(rest.len())])
 }
 
-// Sets the values at `count` addresses of the table from `start` to 0.
+// Sets the values at `count` addresses of a device's table of values (for one kind of addresses,
+// such as holding registers) to 0, from address `start` on.
 #[tactic(auto, using(crate::proofs::Adding::pasted))]
 fn begin_area(table: &mut Vec<Option<u16>>, start: usize, count: usize)
     requires { start + count ≤ length table.old.items }
@@ -121,7 +130,8 @@ fn begin_area(table: &mut Vec<Option<u16>>, start: usize, count: usize)
     }
 }
 
-// Adds an area to a table if the device has none of the area's addresses yet.
+// Adds an area (a range of addresses of one kind, such as holding registers) to the table of this
+// kind, if the device has none of the addresses yet.
 fn add_to(table: &mut Vec<Option<u16>>, start: u16, count: u32) -> Result<(), BankFault>
     ensures { Adds table.old.items start count result table.new.items }
 {
@@ -137,7 +147,8 @@ fn add_to(table: &mut Vec<Option<u16>>, start: u16, count: u32) -> Result<(), Ba
     Ok(())
 }
 
-// Writes the value at an address of the table. Returns whether the device has that address.
+// Writes a value to an address of a simulated device's table of values. Returns whether the device
+// has that address.
 fn write(table: &mut Vec<Option<u16>>, address: u16, value: u16) -> bool
     ensures there { result ≡ is_some (value_in table.old.items address) }
     ensures after { table.new.items ≡ written table.old.items address value }
@@ -152,7 +163,8 @@ fn write(table: &mut Vec<Option<u16>>, address: u16, value: u16) -> bool
 }
 
 impl Bank {
-    /// Creates the register map of a device that has these areas, with all values 0.
+    /// Creates the register map of a device that has these areas (ranges of addresses of one kind,
+    /// such as holding registers), with all values 0.
     pub fn new(alloc: Global, areas: &[Area]) -> Result<Bank, BankFault>
         ensures overlap { (result ≡ Err BankFault.AreasOverlap) ↔ (any_overlap areas.now ≡ true) }
         ensures range { (result ≡ Err BankFault.OutOfRange) ↔
@@ -181,7 +193,8 @@ impl Bank {
         })
     }
 
-    /// Adds an area with all values 0. On error, nothing changes.
+    /// Adds an area (a range of addresses) with all values 0 to the register map. On error, nothing
+    /// changes.
     pub fn add(&mut self, area: &Area) -> Result<(), BankFault>
         ensures added { Adds (table_of self.old area.now.kind) area.now.start area.now.count
             result (table_of self.new area.now.kind) }
@@ -229,8 +242,9 @@ impl Bank {
     /// Executes a PDU of 1 to 253 bytes. Writes the response to the front of `out`, and returns its
     /// length in bytes.
     ///
-    /// Checks the function code first, then the rest of the PDU, then the addresses (Modbus
-    /// Application Protocol V1.1b3, sections 6 and 7). A refused request changes nothing.
+    /// The device checks a request's function code first, then the rest of the PDU, then the
+    /// addresses (Modbus Application Protocol V1.1b3, sections 6 and 7). A refused request changes
+    /// nothing.
     pub fn answer(&mut self, pdu: &[u8], out: &mut [u8; MAX_PDU]) -> usize
         requires some { 1 ≤ length pdu.now }
         requires few { length pdu.now ≤ MAX_PDU }

@@ -26,21 +26,22 @@ pub struct Area {
     pub count: u32,
 }
 
-/// The reason why areas do not form a register map. If several faults apply, the fault with the
-/// lowest numeric code is reported.
+/// The reason why areas (ranges of addresses) do not form a register map. If several faults apply,
+/// the fault with the lowest numeric code is reported.
 #[derive(Clone, Copy, Debug, PartialEq, Eq)]
 pub enum BankFault {
-    /// Two areas of the same kind share an address.
+    /// Fault: two areas (ranges of addresses) of the same kind share an address.
     AreasOverlap,
-    /// An area is empty, or extends past address 65535.
+    /// Fault: an area (a range of addresses) is empty, or extends past address 65535.
     OutOfRange,
     /// Out of memory.
     Memory,
 }
 
 impl BankFault {
-    /// Returns the numeric code of the fault. The codes begin at 1. Faults are checked in the order
-    /// of their codes, and the first fault that applies is reported.
+    /// Returns the numeric code of a fault of a register map's areas (address ranges). The codes
+    /// begin at 1. Faults are checked in the order of their codes, and the first fault that applies
+    /// is reported.
     pub fn number(self) -> u8
         ensures { result ≡ bank_fault_number self }
     {
@@ -66,7 +67,8 @@ impl Kind {
 }
 
 impl Area {
-    // Returns the address after the last address of the area.
+    // Returns the address after the last address of the area (a range of addresses of one kind,
+    // such as holding registers).
     fn end_address(&self) -> u64
         ensures { result ≡ self.now.start + self.now.count }
     {

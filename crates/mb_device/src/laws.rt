@@ -1,4 +1,5 @@
-//! Theorems about the bytes that a simulated device reads and writes on a connection.
+//! Theorems: a simulated device writes exactly the responses to the frames that it reads on a
+//! connection. Without injected faults, the responses are unchanged.
 ghost use Rattle.std.specs.Prelude.{◌≡◌, ◌-◌, ◌^◌, ℕ, List, [], false};
 ghost use Rattle.std.specs.List.{flat_map};
 ghost use Rattle.mb_wire.specs.Reader.{Fields};
@@ -16,8 +17,8 @@ pub fn turns_compose()
     ensures all { AllAreOne }
 {}
 
-/// Theorem: a simulated device without injected faults executes every frame, sends the true
-/// responses in order, and never closes the connection. From frame 2^64 - 1 on, no fault is
+/// Theorem: a simulated device without injected faults executes every frame, sends the responses
+/// unchanged and in order, and never closes the connection. From frame 2^64 - 1 on, no fault is
 /// injected.
 pub fn no_trick_is_true()
     ensures sent { (number : ℕ) (answers : List Fields) →

@@ -61,7 +61,8 @@ pub(crate) fn pack_words(values: &[Option<u16>], out: &mut [u8; MAX_BYTES]) -> u
     2 * values.len()
 }
 
-// Writes the registers in the data bytes of a request into the table, from index `place`.
+// Writes the registers in the data bytes of a request into the device's table of registers, from
+// index `place`.
 pub(crate) fn write_words(table: &mut [Option<u16>], place: usize, bytes: &[u8])
     requires { place + length bytes.now / 2 ≤ length table.old }
     ensures { table.new ≡ all_written table.old place (words_of bytes.now) }
@@ -81,7 +82,8 @@ fn coil_in(quantity: u16, bytes: &[u8], i: usize) -> Option<u16>
     }
 }
 
-// Writes the coils in the data bytes of a request into the table as 0 or 1, from index `place`.
+// Writes the coils in the data bytes of a request into the device's table of coils as 0 or 1, from
+// index `place`.
 pub(crate) fn write_coils(table: &mut [Option<u16>], place: usize, quantity: u16, bytes: &[u8])
     requires count { length bytes.now ≡ bytes_for quantity }
     requires fits { place + quantity ≤ length table.old }

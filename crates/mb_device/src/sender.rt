@@ -9,7 +9,8 @@ use crate::trick::Trick;
 use mb_wire::{Link, LinkFailed, MAX_ADU, MAX_PDU, give_all, write_frame};
 use std::marker::Model;
 
-// Writes all bytes of the slice `first`, followed by all bytes of the slice `next`.
+// Writes to the link (a byte connection) all bytes of the slice `first`, followed by all bytes of
+// the slice `next`.
 fn give_both<L: Link>(link: &mut L, first: &[u8], next: &[u8]) -> Result<(), LinkFailed>
     ensures given { Gives result (L.given link.old) (L.given link.new) (first.now ++ next.now) }
     ensures remaining { Keeps (L.remaining link.old) (L.remaining link.new) }
@@ -81,7 +82,7 @@ fn write_by(trick: Option<Trick>, tid: u16, unit: u8, pdu: &[u8], out: &mut [u8;
     }
 }
 
-// Returns the first fault in the list that applies to this frame number, or `None`.
+// Returns the first injected fault in the list that applies to this frame number, or `None`.
 fn find_first(tricks: &[(u64, Trick)], number: u64) -> Option<Trick>
     ensures { result ≡ first_trick tricks.now number }
 {
@@ -107,9 +108,10 @@ fn find_trick(tricks: &[(u64, Trick)], number: u64) -> Option<Trick>
 #[derive(Drop)]
 pub(crate) struct Sender<'t> {
     tricks: &'t [(u64, Trick)],
-    // The number of the next frame, counted from 1.
+    // The number of the next frame on the connection, counted from 1.
     next: u64,
-    // A delayed response: the first `len` bytes. If `len` is 0, no response is delayed.
+    // A response that is sent later: the first `len` bytes of `later`. If `len` is 0, no response
+    // is delayed.
     later: [u8; MAX_ADU],
     len: usize,
     is_cut: bool,
@@ -147,8 +149,9 @@ impl<'t> Sender<'t> {
         self.is_cut
     }
 
-    // Advances the sender to the next frame, after a frame with this injected fault and this
-    // response.
+    // Advances the sender past a frame: increases the frame number, and updates the delayed
+    // response or closes the connection as the fault requires. `trick` is the fault injected in
+    // this frame, and `frame` has the response.
     fn advance_frame(&mut self, trick: Option<Trick>, frame: [u8; MAX_ADU], end: usize)
         requires { end ≤ MAX_ADU }
         ensures { self.new ≡ following trick (take end frame) self.old }

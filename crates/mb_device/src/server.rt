@@ -33,8 +33,8 @@ pub enum ServeFault {
 }
 
 impl ServeFault {
-    /// Returns the fault's numeric code. The codes begin at 1. The program does not print or store
-    /// them.
+    /// Returns the numeric code of the fault that stopped a simulated device's server. The codes
+    /// begin at 1. The program does not print or store them.
     pub fn number(self) -> u8
         ensures { result ≡ serve_fault_number self }
     {
@@ -54,12 +54,13 @@ pub struct Turned {
     /// The number of frames executed, including frames whose response an injected fault dropped,
     /// delayed or cut off.
     pub answered: u64,
-    /// True if the input ended, or an injected fault closed the connection.
+    /// True if the input of the simulated device's connection ended, or an injected fault closed
+    /// the connection.
     pub ended: bool,
 }
 
-// The result of every turn after an injected fault closed the connection: no frames, and the end of
-// the input.
+// The result of each step (`turn`) of a server after an injected fault closed the connection: no
+// answered frames, and the end of the input.
 const OVER: Turned = Turned {
     answered: 0,
     ended: true,
@@ -114,8 +115,8 @@ fn answer_frame<L: Link>(
     sender.send(link, frame.tid, frame.unit, &pdu[..length])
 }
 
-// Responds to the complete frame in the reader, if there is one. Returns the number of frames: 0 or
-// 1.
+// Responds to the complete frame in the reader of frames, if there is one. Returns the number of
+// frames executed: 0 or 1.
 fn answer_buffered<L: Link>(
     reader: &FrameReader,
     sender: &mut Sender<'_>,
@@ -227,7 +228,7 @@ fn take_turn<L: Link>(
 }
 
 impl<'t> Server<'t> {
-    /// Creates a server without injected faults.
+    /// Creates a server for one connection to a simulated device, without injected faults.
     pub fn new() -> Self
         ensures { result ≡ Holds [] (begun []) }
     {
@@ -237,8 +238,8 @@ impl<'t> Server<'t> {
     /// Creates a server with injected faults. The Modbus frames of its connection are numbered from
     /// 1, without the frames of other protocols.
     ///
-    /// The first fault in the list with a frame's number changes the response to that frame. Other
-    /// frames, and all frames from number 2^64 - 1, get the true response.
+    /// The first fault in the list with a frame's number changes the response to that frame. The
+    /// responses to all other frames, and to the frames from number 2^64 - 1 on, are unchanged.
     pub fn tricked(tricks: &'t [(u64, Trick)]) -> Self
         ensures { result ≡ Holds [] (begun tricks.now) }
     {
@@ -249,7 +250,7 @@ impl<'t> Server<'t> {
         }
     }
 
-    // Returns whether an earlier call of the server returned a fault.
+    // Returns whether an earlier call of this simulated device's server returned a fault.
     fn has_failed(&self) -> bool
         ensures failed { result ≡ has_faulted self.now }
         ensures buffered { (buffered : List ℕ) (course : Course) → self.now ≡ Holds buffered course
@@ -309,9 +310,9 @@ impl<'t> Server<'t> {
     /// of frames executed, including frames whose response an injected fault dropped, delayed or
     /// cut off.
     ///
-    /// Requests executed before a fault keep their effect. After a fault, each call returns
-    /// `Garbled` without a read or a write. After an injected fault closed the connection, each
-    /// call returns 0 without a read or a write.
+    /// Requests executed before a fault keep their effect. After a fault, each later call of
+    /// `serve` returns `Garbled` without a read or a write. After an injected fault closed the
+    /// connection, each later call returns 0 without a read or a write.
     pub fn serve<L: Link>(
         &mut self,
         link: &mut L,

@@ -3,20 +3,20 @@
 /// A fault injected into the response to one frame. The request in the frame is still executed.
 #[derive(Clone, Copy, PartialEq, Eq)]
 pub enum Trick {
-    /// The response is not sent.
+    /// The injected fault drops the response: it is not sent.
     Drop,
-    /// The response is sent twice.
+    /// The injected fault repeats the response: it is sent twice.
     Twice,
-    /// The response is delayed until the server has executed the next frame. It is sent after the
-    /// next response, or alone if the next response is delayed too.
+    /// The injected fault delays the response until the server has executed the next frame. The
+    /// response is sent after the next response, or alone if the next response is delayed too.
     Later,
-    /// The transaction identifier of the response is one too high, modulo 65536.
+    /// The injected fault raises the transaction identifier of the response by one, modulo 65536.
     Id,
-    /// The unit identifier of the response is one too high, modulo 256.
+    /// The injected fault raises the unit identifier of the response by one, modulo 256.
     Unit,
-    /// The length field in the header of the response is 0.
+    /// The injected fault sets the length field in the header of the response to 0.
     Garble,
-    /// At most this number of bytes of the response is sent, and then the connection is closed. A
-    /// delayed response is discarded.
+    /// The injected fault closes the connection after at most this number of bytes of the response.
+    /// A delayed response is discarded.
     Cut(u16),
 }

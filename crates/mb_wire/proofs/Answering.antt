@@ -1,4 +1,5 @@
--- Lemmas about decoding and encoding Modbus responses.
+-- Lemmas: decoding and encoding of Modbus responses are inverse, except that spare bits (unused
+-- bits of the last coil byte) are set to 0.
 use Rattle.std.proofs.Common.{◌≡◌, ℕ, suc, ◌+◌, ◌-◌, ◌*◌, ◌≤◌, ◌==◌, nat_lt, inl, inr, true, false, not, ◌&&◌, ◌||◌, List, [], ◌∷◌, ◌++◌, length, drop, slice_index, None, Ok, refl, sym, ap, subst, ◌∙◌, arith, length-drop}
 use Rattle.std.proofs.lemmas.Bool.{cases_Bool, or_cases, or_from, or_parts, or_left, or_right, and_cases, and_left, and_right, and_from, and_parts, not-false, not_from_true, not_from_false, eqb-true, eq-eqb, ne_eqb, le-ltb, ltb-false, cond-true, cond-false, both_ways}
 use Rattle.mb_wire.specs.Bytes.{AreBytes, number_at, words_of, word_bytes}
@@ -249,13 +250,14 @@ spells_own query (Words words) h =
 spells_own query Echo h = (h, refl)
 spells_own query (Exception code) h = refl
 
--- Clearing the spare bits in the PDU of a successful response leaves its function code and byte
--- count unchanged.
+-- Clearing the spare bits (unused bits of the last coil byte) in the PDU of a successful response
+-- leaves its function code and byte count unchanged.
 plain_cleared : (query : Query) (wanted : Wanted) (others : List ℕ) → wanted_by query ≡ wanted → reply_cleared query (function_of query ∷ others) ≡ cleared_reply wanted (function_of query ∷ others)
 plain_cleared query wanted others e =
     cond-false _ _ _ (no_exception query others) ∙ ap (λ w. cleared_reply w (function_of query ∷ others)) e
 
--- Encoding a decoded response gives its PDU with the spare bits set to 0.
+-- Encoding a decoded response gives its PDU with the spare bits (unused bits of the last coil byte)
+-- set to 0.
 pub spells_cleared : (query : Query) (pdu : List ℕ) (answer : Answer) → AreBytes pdu → SpellsReply query pdu answer → answer_bytes query answer ≡ reply_cleared query pdu
 spells_cleared query pdu (Bits bits) h s =
     let bytes = s.1.0 in

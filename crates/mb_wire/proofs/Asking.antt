@@ -1,4 +1,5 @@
--- Lemmas about decoding and encoding Modbus requests.
+-- Lemmas: decoding and encoding of Modbus requests are inverse, except that spare bits (unused bits
+-- of the last coil byte) are set to 0.
 use Rattle.std.proofs.Common.{◌≡◌, ℕ, suc, ◌+◌, ◌-◌, ◌*◌, ◌/◌, ◌%◌, ◌<◌, ◌≤◌, ◌==◌, nat_lt, inl, inr, Bool, true, false, not, ◌&&◌, ◌||◌, if◌then◌else◌, List, [], ◌∷◌, ◌++◌, length, drop, slice_index, Option, Some, None, Ok, refl, sym, ap, subst, ◌∙◌, arith, length-drop, drop-cons}
 use Rattle.std.proofs.lemmas.Bool.{cases_eq, or_cases, or_from, or_parts, and_cases, and_left, and_right, not-false, not_from_true, eqb-true, eq-eqb, le-ltb, ltb-false, cond-true, cond-false, both_ways, leb-true, and_parts}
 use Rattle.std.proofs.lemmas.List.{drop_all}
@@ -12,7 +13,7 @@ use Rattle.mb_wire.proofs.Words.{length-word_bytes, length-words_of, word_bytes-
 pub whole : (n : ℕ) → 256 * (n / 256) + n % 256 ≡ n
 whole n = omega arith
 
--- True if the PDU has no fault as a request.
+-- True if the PDU is a valid Modbus request (no fault of a request applies).
 pub record Faultless (pdu : List ℕ) : Type 0 where
   pub function : is_unknown_function pdu ≡ false
   pub length : is_wrong_request_length pdu ≡ false
@@ -52,7 +53,8 @@ plain function address field known short quantity coil =
       coil = coil;
     }
 
--- If the standard allows a quantity for a function code, the check for wrong quantities accepts it.
+-- If the Modbus standard allows a quantity for a function code, the check for wrong quantities
+-- accepts it.
 allowed : (function most quantity n : ℕ) → most_of function ≡ most → IsWithin quantity most → n ≡ quantity → (not (writes_one function) && (nat_lt n 1 || nat_lt (most_of function) n)) ≡ false
 allowed function most quantity n e h same =
     and_right (not (writes_one function)) _ (or_from _ _ (le-ltb n 1 (omega arith)) (le-ltb (most_of function) n (omega arith)))
@@ -315,7 +317,8 @@ spells_own (WriteRegisters address values) lawful small fits =
 pub bytes_spell_own : (query : Query) → IsLawfulQuery query → AreBytes (query_bytes query) → SpellsRequest (query_bytes query) query
 bytes_spell_own query lawful h = spells_own query lawful (omega (arith, h 1)) (omega (arith, h 3))
 
--- Encoding a decoded request gives its PDU with the spare bits set to 0.
+-- Encoding a decoded request gives its PDU with the spare bits (unused bits of the last coil byte)
+-- set to 0.
 pub spells_cleared : (pdu : List ℕ) (query : Query) → AreBytes pdu → SpellsRequest pdu query → query_bytes query ≡ request_cleared pdu
 spells_cleared pdu (ReadCoils address quantity) h s = sym (ap request_cleared s.2)
 spells_cleared pdu (ReadDiscrete address quantity) h s = sym (ap request_cleared s.2)

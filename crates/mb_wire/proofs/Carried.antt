@@ -1,4 +1,5 @@
--- Lemmas about the data bytes of a write request.
+-- Lemmas: the data bytes of a write request have the same length after they are decoded and encoded
+-- again.
 use Rattle.std.proofs.Common.{◌≡◌, ℕ, ◌*◌, List, length, ap, sym, ◌∙◌}
 use Rattle.mb_wire.specs.Bytes.{words_of, word_bytes}
 use Rattle.mb_wire.specs.Coils.{bytes_for, coils_of, packed}

@@ -1,5 +1,6 @@
--- Checks the definitions by examples: the requests and responses printed in the Modbus standard,
--- and each limit with its first invalid value. A wrong constant in the program fails an example.
+-- Checks the definitions of Modbus requests and responses by examples: those printed in the Modbus
+-- standard, and each limit with its first invalid value. A wrong constant in the program fails an
+-- example.
 use Rattle.std.proofs.Common.{◌≡◌, true, false, List, ℕ, [], ◌∷◌, length, replicate, Ok, Err, Some, None, refl, arith}
 use Rattle.mb_wire.specs.Coils.{bits_in, coils_in, packed_in}
 use Rattle.mb_wire.specs.Frames.{frames, frames_in, is_bad, is_garbled, rest, rest_in}
@@ -113,7 +114,7 @@ length_254 = refl
 length_255 : is_bad (0 ∷ 0 ∷ 0 ∷ 0 ∷ 0 ∷ 255 ∷ []) ≡ true
 length_255 = refl
 
--- The frames with the shortest and the longest PDU that the standard allows.
+-- The frames with the shortest and the longest PDU that the Modbus standard allows.
 abbrev shortest : List ℕ
 shortest = 0 ∷ 0 ∷ 0 ∷ 0 ∷ 0 ∷ 2 ∷ 1 ∷ 3 ∷ []
 
@@ -131,7 +132,7 @@ longest_is_read : frames longest ≡ longest ∷ []
 unfolding frames frames_in
 longest_is_read = refl
 
--- A frame with one byte more than the longest frame that the standard allows.
+-- A frame with one byte more than the longest frame that the Modbus standard allows.
 abbrev too_long : List ℕ
 too_long = 0 ∷ 0 ∷ 0 ∷ 0 ∷ 0 ∷ 255 ∷ 1 ∷ replicate 254 0
 
@@ -281,6 +282,7 @@ write_registers_reply_is_spelled : answer_bytes (WriteRegisters 1 (10 ∷ 258 �
 unfolding coils_in bits_in packed_in
 write_registers_reply_is_spelled = refl
 
--- The exception response with code 2, illegal data address (MAP, section 7).
+-- The exception response with code 2, illegal data address (Modbus Application Protocol V1.1b3,
+-- section 7).
 no_such_address : answer_in (ReadCoils 1185 1) (129 ∷ 2 ∷ []) ≡ Ok (Exception 2)
 no_such_address = refl

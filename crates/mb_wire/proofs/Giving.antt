@@ -1,4 +1,5 @@
--- Lemmas about bytes that are sent over a link (a byte connection) in several writes.
+-- Lemmas: bytes that are sent over a link (a byte connection) in several writes satisfy the
+-- contract of one write of all bytes.
 use Rattle.std.proofs.Common.{◌≡◌, ℕ, ◌-◌, List, ◌++◌, length, take, drop, Option, Result, Ok, Err, sym, ap, ◌∙◌, subst, arith, append_assoc, length-append}
 use Rattle.std.specs.Io.KnownBytes.{Appends}
 use Rattle.std.proofs.KnownBytes.{Appends-trans}
@@ -25,14 +26,14 @@ Gives-both (Err e) a b c first next given gives =
       given = Appends-trans a b c _ _ given gives.given;
     }
 
--- Suppose that a link accepted the first `n` bytes of a list, and the remaining bytes were then
--- written. Both writes together satisfy the contract of one write of the list.
+-- Suppose that a link (a byte connection) accepted the first `n` bytes of a list, and the remaining
+-- bytes were then written. Both writes together satisfy the contract of one write of the list.
 pub Gives-then : {X E : Type 0} (result : Result X E) (a b c : Option (List ℕ)) (bytes : List ℕ) (n : ℕ) → Appends a b (take n bytes) → Gives result b c (from n bytes) → Gives result a c bytes
 Gives-then result a b c bytes n first next =
     subst (Gives result a c) (whole_again n bytes) (Gives-both result a b c (take n bytes) (from n bytes) first next)
 
--- If a link accepted only a part of some bytes, then it accepted only a part of any longer list
--- that begins with these bytes.
+-- If a link (a byte connection) accepted only a part of some bytes, then it accepted only a part of
+-- any longer list that begins with these bytes.
 pub GivesPart-before : (a b : Option (List ℕ)) (first next : List ℕ) → GivesPart a b first → GivesPart a b (first ++ next)
 GivesPart-before a b first next gives =
     record {

@@ -28,8 +28,8 @@ answers_query request (Words bytes) h = h.0
 answers_query request Echo h = h
 answers_query request (Exception code) h = h
 
--- If a response is an exception, or fits a valid request with the right quantity of data, then it
--- answers the request.
+-- If a response is an exception, or the request is valid and the response has the requested
+-- quantity of data (`FitsRequest`), then the response answers the request.
 pub fitting_answers : (request : Request) (reply : Reply) → FitsRequest request reply → AnswersRequest request reply
 fitting_answers request (Bits quantity bytes) h = h.1
 fitting_answers request (Words bytes) h = h.1

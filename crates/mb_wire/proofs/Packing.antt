@@ -1,4 +1,5 @@
--- Lemmas about packing coils into bytes and unpacking them.
+-- Lemmas: packing coils into bytes and unpacking them are inverse, except that spare bits (unused
+-- bits of the last coil byte) are set to 0.
 use Rattle.std.proofs.Common.{◌≡◌, ℕ, zero, suc, ◌+◌, ◌-◌, ◌*◌, ◌/◌, ◌%◌, ◌^◌, ◌<◌, ◌≤◌, ◌==◌, min, ◌⊎◌, inl, inr, Bool, true, false, if◌then◌else◌, List, [], ◌∷◌, ◌++◌, length, take, drop, slice_index, slice_get, Some, None, refl, sym, ap, ◌∙◌, arith, length-append, length-take-le, length-drop}
 use Rattle.std.proofs.Math.Nat.{min-eq_left, min-eq_right, div-div-eq-div-mul, pow-succ'}
 use Rattle.std.proofs.Math.Seq.{take-append-add, drop-append-add}

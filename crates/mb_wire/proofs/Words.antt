@@ -1,4 +1,5 @@
--- Lemmas about registers encoded in bytes.
+-- Lemmas about registers encoded in bytes: the number of registers, the register at an index, and
+-- that decoding and encoding are inverse.
 use Rattle.std.proofs.Common.{◌≡◌, ℕ, zero, suc, ◌+◌, ◌*◌, ◌/◌, ◌%◌, ◌<◌, ◌≤◌, List, [], ◌∷◌, length, drop, refl, ap, ◌∙◌, subst, arith, slice_index, slice_get, Some, None}
 use Rattle.mb_wire.specs.Bytes.{AreBytes, words_of, word_bytes}
 

@@ -25,12 +25,14 @@ coils_of quantity bytes = take quantity (coils_in bytes)
 abbrev pub bytes_for : ℕ → ℕ
 bytes_for quantity = (quantity + 7) / 8
 
--- A list of `count` bytes that encode the coils, with spare bits set to 0.
+-- A list of `count` bytes that encode the coils, with spare bits (unused bits of the last coil
+-- byte) set to 0.
 unfoldable pub packed_in : ℕ → List Bool → List ℕ
 packed_in zero coils = []
 packed_in (suc count) coils = number_of (take 8 coils) ∷ packed_in count (drop 8 coils)
 
--- The bytes that encode a list of coils, with spare bits set to 0.
+-- The bytes that encode a list of coils, with spare bits (unused bits of the last coil byte) set to
+-- 0.
 abbrev pub packed : List Bool → List ℕ
 packed coils = packed_in (bytes_for (length coils)) coils
 

@@ -24,7 +24,7 @@ unit_of bytes = slice_index bytes 6
 abbrev pub pdu_of : List ℕ → List ℕ
 pdu_of bytes = drop 7 bytes
 
--- True if the standard allows this value of a frame's length field: 2 to 254.
+-- True if the Modbus standard allows this value of a frame's length field: 2 to 254.
 abbrev pub IsGoodSpan : ℕ → Type 0
 IsGoodSpan n = (MIN_LENGTH ≤ n) × (n ≤ MAX_LENGTH)
 

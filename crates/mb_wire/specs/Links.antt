@@ -8,8 +8,8 @@ use Rattle.mb_wire.specs.declared.link.LinkFailed.{LinkFailed}
 use Rattle.mb_wire.specs.declared.link.Took.{Took}
 use Rattle.mb_wire.specs.declared.link.Took.TheVariants.{Bytes, End, Idle}
 
--- The limits on the number of bytes that a successful read returns. It is at most the size of the
--- buffer, and at least one if the buffer is not empty.
+-- The limits on the number of bytes that a successful read returns. The number is at most the size
+-- of the buffer, and at least one if the buffer is not empty.
 abbrev pub TakesAtMost : Result Took LinkFailed → List ℕ → Type 0
 TakesAtMost (Ok (Bytes n)) piece = (n ≤ length piece) × (0 < length piece → 0 < n)
 TakesAtMost (Ok End) piece = Unit {0}
@@ -41,15 +41,15 @@ abbrev pub is_call : Option ℕ → ℕ → Bool
 is_call None call = false
 is_call (Some fails) call = fails == call
 
--- True if a read found the end of the input.
+-- True if the result of a read of a link (a byte connection) says that the input has ended.
 abbrev pub is_end : Result Took LinkFailed → Bool
 is_end (Ok (Bytes n)) = false
 is_end (Ok End) = true
 is_end (Ok Idle) = false
 is_end (Err failed) = false
 
--- True if the link (a byte connection) accepted some bytes from the front of the list, possibly
--- none, but not all bytes.
+-- True if the link (a byte connection) accepted some of the bytes to write from the front of their
+-- list, possibly none, but not all.
 pub record GivesPart (old new : Option (List ℕ)) (bytes : List ℕ) : Type 0 where
   pub part : List ℕ
   pub unsent : List ℕ

@@ -61,22 +61,25 @@ echo_of query = take 5 (query_bytes query)
 
 -- True if the PDU encodes this response to the request.
 abbrev pub SpellsReply : Query → List ℕ → Answer → Type 0
--- Coils: the function code, the byte count, and the coils that the request reads.
+-- The PDU of a response with coils: the function code, the byte count, and the coils that the
+-- request reads.
 SpellsReply query pdu (Bits bits) =
     (wanted_by query ≡ Coils (length bits))
     × ((bytes : List ℕ) × (pdu ≡ function_of query ∷ bytes_for (length bits) ∷ bytes)
     × (length bytes ≡ bytes_for (length bits)) × (bits ≡ coils_of (length bits) bytes))
--- Registers: the function code, the byte count, and the registers that the request reads.
+-- The PDU of a response with registers: the function code, the byte count, and the registers that
+-- the request reads.
 SpellsReply query pdu (Words words) =
     (wanted_by query ≡ Registers (length words))
     × ((bytes : List ℕ) × (pdu ≡ function_of query ∷ 2 * length words ∷ bytes)
     × (length bytes ≡ 2 * length words) × (words ≡ words_of bytes))
--- A write: the first five bytes of the request.
+-- The PDU of the response to a write: the first five bytes of the request.
 SpellsReply query pdu Echo = (wanted_by query ≡ Head) × (pdu ≡ echo_of query)
--- An exception: the function code with its top bit set, and the exception code.
+-- The PDU of an exception response: the function code with its top bit set, and the exception code.
 SpellsReply query pdu (Exception code) = pdu ≡ (function_of query + 128) ∷ code ∷ []
 
--- The PDU of a response to the request, with spare bits set to 0.
+-- The PDU of a response to the request, with spare bits (unused bits of the last coil byte) set to
+-- 0.
 abbrev pub answer_bytes : Query → Answer → List ℕ
 answer_bytes query (Bits bits) = function_of query ∷ bytes_for (length bits) ∷ packed bits
 answer_bytes query (Words words) = function_of query ∷ 2 * length words ∷ word_bytes words
@@ -102,8 +105,8 @@ AnswersRequest request (lent.Words bytes) =
 AnswersRequest request lent.Echo = wanted_by (query_of request) ≡ Head
 AnswersRequest request (lent.Exception code) = Unit {0}
 
--- True if the response is an exception. Any other response must answer the request with the right
--- quantity of data, and the request must be valid.
+-- True if the response is an exception, or if the request is valid and the response answers the
+-- request with the right quantity of data.
 abbrev pub FitsRequest : Request → Reply → Type 0
 FitsRequest request (lent.Bits quantity bytes) =
     IsLawful request × AnswersRequest request (lent.Bits quantity bytes)
@@ -207,19 +210,21 @@ abbrev pub read_as : Result Reply ReplyFault → Result Answer ReplyFault
 read_as (Ok reply) = Ok (answer_of reply)
 read_as (Err fault) = Err fault
 
--- The PDU of a successful response with its spare bits set to 0. Only responses with coils have
--- spare bits.
+-- The PDU of a successful response with its spare bits (unused bits of the last coil byte) set to
+-- 0. Only responses with coils have spare bits.
 abbrev pub cleared_reply : Wanted → List ℕ → List ℕ
 cleared_reply (Coils quantity) pdu = take 2 pdu ++ cleared_after quantity (drop 2 pdu)
 cleared_reply (Registers quantity) pdu = pdu
 cleared_reply Head pdu = pdu
 
--- The PDU of a response or an exception, with its spare bits set to 0.
+-- The PDU of a response or an exception, with its spare bits (unused bits of the last coil byte)
+-- set to 0.
 abbrev pub reply_cleared : Query → List ℕ → List ℕ
 reply_cleared query pdu =
     if is_exception query pdu then pdu else cleared_reply (wanted_by query) pdu
 
--- True if encoding the decoded response again gives the PDU with its spare bits set to 0.
+-- True if encoding the decoded response again gives the PDU with its spare bits (unused bits of the
+-- last coil byte) set to 0.
 abbrev pub SpellsBack : Query → List ℕ → Reply → Type 0
 SpellsBack query pdu reply = answer_bytes query (answer_of reply) ≡ reply_cleared query pdu
 

@@ -27,7 +27,8 @@ field_in pdu = number_at pdu 3
 abbrev pub count_in : List ℕ → ℕ
 count_in pdu = slice_index pdu 5
 
--- True if the function code is one of the eight that the crate decodes.
+-- True if the function code is one of the eight that the decoder of requests supports (1 to 6, 15
+-- and 16).
 abbrev pub is_known : ℕ → Bool
 is_known function = (nat_le 1 function && nat_le function 6) || function == 15 || function == 16
 
@@ -39,7 +40,7 @@ carries_bytes function = function == 15 || function == 16
 abbrev pub writes_one : ℕ → Bool
 writes_one function = function == 5 || function == 6
 
--- The greatest quantity that the standard allows for a function with a quantity.
+-- The greatest quantity that the Modbus standard allows for a function with a quantity.
 abbrev pub most_of : ℕ → ℕ
 most_of function =
     if nat_le function 2 then MAX_READ_COILS
@@ -51,7 +52,8 @@ most_of function =
 abbrev pub bytes_of : ℕ → ℕ → ℕ
 bytes_of function quantity = if function == 15 then bytes_for quantity else 2 * quantity
 
--- True if the function code is none of the eight that the crate decodes.
+-- True if the function code is none of the eight that the decoder of requests supports (1 to 6, 15
+-- and 16).
 abbrev pub is_unknown_function : List ℕ → Bool
 is_unknown_function pdu = nat_lt 0 (length pdu) && not (is_known (function_in pdu))
 
@@ -62,7 +64,7 @@ is_wrong_request_length pdu =
     then nat_lt (length pdu) 6 || not (length pdu == 6 + count_in pdu)
     else not (length pdu == 5)
 
--- True if the quantity is 0, or more than the function allows.
+-- True if the quantity of a request is 0, or more than the request's function allows.
 abbrev pub is_wrong_quantity : List ℕ → Bool
 is_wrong_quantity pdu =
     not (writes_one (function_in pdu))
@@ -101,7 +103,7 @@ query_from pdu =
     then WriteCoils (address_in pdu) (coils_of (field_in pdu) (drop 6 pdu))
     else WriteRegisters (address_in pdu) (words_of (drop 6 pdu))
 
--- The fault as an error if there is one, otherwise the value.
+-- The given fault as `Err` if there is one, otherwise the given value as `Ok`.
 abbrev pub value_unless : {V F : Type 0} → Option F → V → Result V F
 value_unless None value = Ok value
 value_unless (Some fault) value = Err fault
@@ -116,12 +118,13 @@ abbrev pub asked_as : Result Request RequestFault → Result Query RequestFault
 asked_as (Ok request) = Ok (query_of request)
 asked_as (Err fault) = Err fault
 
--- A request's PDU with its spare bits set to 0.
+-- A request's PDU with its spare bits (unused bits of the last coil byte) set to 0.
 abbrev pub request_cleared : List ℕ → List ℕ
 request_cleared pdu =
     if function_in pdu == 15 then take 6 pdu ++ cleared_after (field_in pdu) (drop 6 pdu) else pdu
 
--- The numeric code of each request fault: its position in the order of the checks.
+-- The numeric code of each fault of a Modbus request PDU, from 1. The codes have the order in which
+-- the decoder tests for the faults.
 abbrev pub request_fault_number : RequestFault → ℕ
 request_fault_number UnknownFunction = 1
 request_fault_number WrongLength = 2

@@ -82,12 +82,13 @@ carried_by (WriteRegisters address values) = 2 * length values ∷ word_bytes va
 abbrev pub head_bytes : ℕ → ℕ → ℕ → List ℕ
 head_bytes function address field = function ∷ word address ++ word field
 
--- The PDU that encodes a request, with spare bits set to 0.
+-- The PDU that encodes a request, with spare bits (unused bits of the last coil byte) set to 0.
 abbrev pub query_bytes : Query → List ℕ
 query_bytes query =
     head_bytes (function_of query) (address_of query) (field_of query) ++ carried_by query
 
--- The PDU that encodes a borrowed `Request`, with spare bits set to 0.
+-- The PDU that encodes a borrowed `Request`, with spare bits (unused bits of the last coil byte)
+-- set to 0.
 abbrev pub request_bytes : Request → List ℕ
 request_bytes request = query_bytes (query_of request)
 
@@ -95,7 +96,7 @@ request_bytes request = query_bytes (query_of request)
 abbrev pub IsWithin : ℕ → ℕ → Type 0
 IsWithin quantity most = (1 ≤ quantity) × (quantity ≤ most)
 
--- True if the standard allows the quantity of this request for its function.
+-- True if the Modbus standard allows the quantity of this request for its function.
 abbrev pub IsLawfulQuery : Query → Type 0
 IsLawfulQuery (ReadCoils address quantity) = IsWithin quantity MAX_READ_COILS
 IsLawfulQuery (ReadDiscrete address quantity) = IsWithin quantity MAX_READ_COILS
@@ -106,7 +107,8 @@ IsLawfulQuery (WriteRegister address value) = Unit {0}
 IsLawfulQuery (WriteCoils address coils) = IsWithin (length coils) MAX_WRITE_COILS
 IsLawfulQuery (WriteRegisters address values) = IsWithin (length values) MAX_WRITE_REGISTERS
 
--- True if the standard allows the quantity of the `Request`, and its number of data bytes matches.
+-- True if the Modbus standard allows the quantity of the `Request`, and its number of data bytes
+-- matches.
 abbrev pub IsLawful : Request → Type 0
 IsLawful (lent.ReadCoils address quantity) = IsWithin quantity MAX_READ_COILS
 IsLawful (lent.ReadDiscrete address quantity) = IsWithin quantity MAX_READ_COILS

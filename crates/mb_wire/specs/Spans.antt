@@ -18,7 +18,8 @@ pub record Span : Type 0 where
   pub address : ℕ
   pub count : ℕ
 
--- The value of a `ReadSpan`, as a `Span`.
+-- The contents of a `ReadSpan` (a range of registers that one request reads) as a `Span`: the
+-- function, the first address and the register count.
 abbrev pub span_view : ReadSpan → Span
 span_view span = record { function = span.function; address = span.address; count = span.count }
 
@@ -31,11 +32,12 @@ pub record IsSpan (function address count : ℕ) : Type 0 where
   pub few : count ≤ MAX_READ_REGISTERS
   pub inside : address + count ≤ ADDRESSES
 
--- The request that reads `count` registers from `address` with this function.
+-- The Modbus request that reads `count` registers from `address` on with the given function (3 or
+-- 4).
 abbrev pub read_request : ReadFunction → ℕ → ℕ → Request
 read_request HoldingRegisters address count = ReadHolding address count
 read_request InputRegisters address count = ReadInput address count
 
--- The request that reads the registers of a span.
+-- The Modbus request that reads the registers of a span (a range of consecutive registers).
 abbrev pub request_of : Span → Request
 request_of span = read_request span.function span.address span.count

@@ -12,22 +12,23 @@ use crate::limits::{MAX_ADU, MAX_LENGTH, MAX_PDU, MBAP_HEADER, MIN_LENGTH};
 use byteorder::{BigEndian, ByteOrder};
 use std::marker::Model;
 
-/// The result of a call of `FrameReader::feed`.
+/// The result of a call of `FrameReader::feed`, which splits a byte stream into Modbus TCP frames.
 #[derive(Clone, Copy, PartialEq, Eq)]
 pub enum Framing {
-    /// The reader consumed all bytes of its input, and no frame ended.
+    /// The frame reader consumed all bytes of its input, and no frame ended.
     Need,
     /// The last byte that the reader consumed ended a frame with protocol identifier 0 (Modbus).
     Whole,
     /// The last byte that the reader consumed ended a frame with another protocol identifier than
     /// 0.
     Foreign,
-    /// The last byte that the reader consumed is the low byte of an invalid length field. The
+    /// The last byte that the frame reader consumed is the low byte of an invalid length field. The
     /// reader consumes no further bytes.
     Garbled,
 }
 
-/// The number of bytes that `FrameReader::feed` consumed, and the result of the call.
+/// The result of a call of `FrameReader::feed`: the number of input bytes consumed, and whether a
+/// frame ended.
 #[derive(Clone, Copy, PartialEq, Eq)]
 pub struct Fed {
     pub taken: usize,
@@ -69,8 +70,8 @@ impl Model for FrameReader {
     ghost invariant = { λ r. (r.len ≤ MAX_ADU) × FitsState r.state (take r.len r.buf) };
 }
 
-// The result of one step of `FrameReader::feed`: the number of bytes consumed, and the number of
-// bytes now in the buffer.
+// The result of one step of `FrameReader::feed`, which splits a byte stream into frames: the number
+// of bytes consumed, and the number of bytes now in the buffer.
 #[derive(Drop)]
 struct Step {
     len: usize,
@@ -196,8 +197,8 @@ impl FrameReader {
         }
     }
 
-    /// Consumes bytes of `piece`, up to the end of the next frame. The caller calls `feed` again
-    /// with the remaining bytes of `piece`.
+    /// Consumes bytes of `piece` (a chunk of the byte stream), up to the end of the next frame. The
+    /// caller calls `feed` again with the remaining bytes of `piece`.
     pub fn feed(&mut self, piece: &[u8]) -> Fed
         ensures taken { result.taken ≤ length piece.now }
         ensures need { result.what ≡ Framing.Need → result.taken ≡ length piece.now }

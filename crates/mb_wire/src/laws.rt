@@ -1,4 +1,5 @@
-//! Theorems about the PDUs of all Modbus requests and responses.
+//! Theorems about the PDUs of all Modbus requests and responses: decoding and encoding are inverse,
+//! except that spare bits are set to 0.
 ghost use Rattle.std.specs.Prelude.{◌≡◌, ◌↔◌, ℕ, List, Ok};
 ghost use Rattle.mb_wire.specs.Bytes.{AreBytes};
 ghost use Rattle.mb_wire.specs.Requests.{Query, IsLawfulQuery, SpellsRequest, query_bytes};

@@ -11,9 +11,9 @@ ghost use Rattle.mb_wire.specs.declared.link.LastTake.{LastTake};
 pub enum Took {
     /// The number of bytes that a read returned. They are at the front of the read buffer.
     Bytes(usize),
-    /// The other side finished sending: no further bytes will arrive.
+    /// The other side of the connection finished sending: no further bytes will arrive.
     End,
-    /// No bytes have arrived yet, and the other side has not finished sending.
+    /// No bytes have arrived yet, and the other side of the connection has not finished sending.
     Idle,
 }
 
@@ -75,11 +75,12 @@ pub trait Link {
     fn failures(&self) -> u64
         ensures { result ≡ failed self.now };
 
-    /// Returns the number of reads from the link.
+    /// Returns how many times the program has read from the link (the byte connection to a device).
     fn takes(&self) -> u64
         ensures { result ≡ taken self.now };
 
-    /// Returns the last read from the link, or `None` before the first read.
+    /// Returns the buffer size and the result of the last read from the link (a byte connection),
+    /// or `None` before the first read.
     fn last_take(&self) -> Option<LastTake>
         ensures { result ≡ last self.now };
 }

@@ -99,7 +99,8 @@ impl MemoryLink<'_> {
     ghost use Rattle.std.specs.Prelude.{◌++◌};
     ghost use Rattle.mb_wire.specs.MemoryLinks.{CallsOnce, filled, handed_out, take_answer};
 
-    // Copies bytes of the input to the front of `piece`, or fails if this call is set to fail.
+    // Copies bytes of the connection's input to the front of `piece`, or fails if a test has set
+    // this call to fail.
     fn hand_out(&mut self, piece: &mut [u8]) -> Result<Took, LinkFailed>
         ensures answered { result ≡ take_answer self.old (length piece.old) }
         ensures bound { TakesAtMost result piece.new }

@@ -33,20 +33,20 @@ pub enum Reply<'a> {
 /// lowest numeric code is reported.
 #[derive(Clone, Copy, Debug, PartialEq, Eq)]
 pub enum ReplyFault {
-    /// The first byte differs from the request's function code, and also from this code with its
-    /// top bit set.
+    /// The first byte of the response differs from the request's function code, and also from this
+    /// code with its top bit set.
     WrongFunction,
     /// The PDU is empty, or its length does not match its function and byte count.
     WrongLength,
-    /// The byte count does not match the quantity of the request.
+    /// The byte count of the response does not match the quantity of the request.
     WrongByteCount,
     /// The response to a write request does not repeat the address and value of the request.
     WrongEcho,
 }
 
 impl ReplyFault {
-    /// Returns the fault's numeric code. The codes begin at 1. Faults are checked in the order of
-    /// their codes, and the first fault that applies is reported.
+    /// Returns the numeric code of a response's fault. The codes begin at 1. Faults are checked in
+    /// the order of their codes, and the first fault that applies is reported.
     pub fn number(self) -> u8
         ensures { result ≡ fault_number self }
     {

@@ -12,7 +12,8 @@ use crate::bytes::read_number;
 use crate::limits::{MAX_READ_COILS, MAX_READ_REGISTERS, MAX_WRITE_COILS, MAX_WRITE_REGISTERS};
 use crate::requests::{Request, RequestFault};
 
-// Returns whether the function code is one of the eight that this crate decodes.
+// Returns whether the function code is one of the eight that the decoder of requests supports (1 to
+// 6, 15 and 16).
 fn is_known_function(function: u8) -> bool
     ensures { result ≡ is_known function }
 {

@@ -64,11 +64,12 @@ pub enum Request<'a> {
 /// numeric code is reported.
 #[derive(Clone, Copy, Debug)]
 pub enum RequestFault {
-    /// The PDU's first byte is none of the eight function codes that this crate decodes.
+    /// The PDU's first byte is none of the eight function codes that the decoder of requests
+    /// supports (1 to 6, 15 and 16).
     UnknownFunction,
     /// The PDU is empty, or its length does not match its function and byte count.
     WrongLength,
-    /// The standard does not allow this quantity for the function code.
+    /// The Modbus standard does not allow the request's quantity for the request's function code.
     WrongQuantity,
     /// The byte count of a write request does not match its quantity.
     WrongByteCount,
@@ -83,7 +84,8 @@ pub(crate) enum Wanted {
     Coils(u16),
     // The response contains a byte count and this number of registers.
     Registers(u16),
-    // The response repeats the address and value of the request.
+    // The response repeats the address of the request and the 16-bit number after it (a value or a
+    // quantity).
     Head,
 }
 
@@ -157,7 +159,8 @@ impl Request<'_> {
         }
     }
 
-    // Returns the kind of content of a successful response to the request.
+    // Returns which content a successful response to the request has: coils, registers, or a
+    // repetition of the request's first five bytes.
     pub(crate) fn wanted(&self) -> Wanted
         ensures { result ≡ wanted_by (query_of self.now) }
     {

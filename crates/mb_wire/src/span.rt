@@ -42,8 +42,8 @@ pub struct ReadSpan {
 impl ReadSpan {
     ghost use Rattle.mb_wire.specs.Spans.{IsSpan, code_of, request_of, span_view};
 
-    /// Creates a span from a function code, an address and a register count. Returns `None` if the
-    /// values are not valid.
+    /// Creates a span (a range of registers). Returns `None` unless the function code is 3 or 4 and
+    /// the range has 1 to 125 registers within the 65536 addresses of a device.
     pub fn new(function: u8, address: u16, count: u16) -> Option<ReadSpan>
         ensures lawful { IsSome result ↔ IsSpan function address count }
         ensures function { IfSome result (λ span. code_of span.function ≡ function) }

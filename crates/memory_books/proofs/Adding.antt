@@ -1,4 +1,6 @@
--- Lemmas about a store in memory after records are added to it.
+-- Lemmas on a store in memory: its list of records, its figures (number of meters, latest
+-- timestamp) and its lookup tables (indexes of the records). After records are added, they have the
+-- content that follows from the earlier and the new records. A failed write changes nothing.
 use Rattle.std.proofs.Common.{◌≡◌, true, false, List, [], ◌∷◌, ◌++◌, reverse, inl, inr, refl, sym, ap, subst, ◌∙◌, Result, Ok, Err}
 use Rattle.std.proofs.lemmas.List.{append-nil, reverse-append, reverse-reverse}
 use Rattle.std.specs.declared.alloc.AllocError.{AllocError}
@@ -38,8 +40,9 @@ listed_still old new known same tables figures listed = record {
   figures = figures;
 }
 
--- Suppose that a call preserves a store's agreement with every list of records. If the store agreed
--- with one of the lists `left` before the call, then also after it.
+-- Suppose that a call preserves a store's agreement with each list of records (the store has
+-- exactly these records). If the store in memory agreed with one of several lists (`left`) before
+-- the call, it still agrees with one of them.
 pub one_still : (old new : ListBooks) → ((known : List Fact) → AreListed old known → AreListed new known) → (left : List (List Fact)) → HasOne old left → HasOne new left
 one_still old new still [] may = may
 one_still old new still (known ∷ left) (inl listed) = inl (still known listed)
@@ -57,7 +60,7 @@ figures_after_none old new facts known none figures listed =
     subst (λ (fs : List Fact). AreFigures new.figures (with_facts fs known)) none (figures known listed.facts listed.figures)
 
 -- If the new records were appended to a store's list, then the result `Ok` satisfies the guarantees
--- of a write.
+-- of a write (the store has all new records, also after a crash).
 pub added : (old mid new : ListBooks) (facts : List Fact) → mid.facts.items ≡ old.facts.items ++ facts → mid.zone ≡ old.zone → mid.tables ≡ old.tables
     → FiguresFollow facts old mid → KeepsFacts (ledger_of mid) (ledger_of new) → new.zone ≡ mid.zone → new.last_failure ≡ old.last_failure
     → Books (ledger_of old) (ledger_of new) facts (Ok tt)

@@ -1,4 +1,5 @@
--- Lemmas about writes to a test store, which wraps another store and fails at one chosen call.
+-- Lemmas: writes to a test store satisfy the guarantees of a write (the store gets all new records
+-- or, on an error, none). The test store wraps another store and fails at one chosen call.
 use Rattle.std.proofs.Common.{◌≡◌, List, [], ◌∷◌, true, false, refl, sym, subst, Result, Ok, Err}
 use Rattle.std.proofs.lemmas.List.Elements.{Contains-append_left, Contains-push}
 use Rattle.office_events.specs.declared.facts.Fact.{Fact}
@@ -37,7 +38,7 @@ beneath old new n facts (Err fault) books = record {
 }
 
 -- If the test store passes a write on to the store that it wraps, then the result satisfies the
--- guarantees of a write.
+-- guarantees of a write. On an error, no record was added.
 pub passed : (old between new : ListBooks) (n k m : Failures) (facts : List Fact) (done result : Result (Unit {0}) BooksFault)
     → between ≡ old → k ≡ n → result ≡ done → m ≡ faults_after done k → Books (ledger_of between) (ledger_of new) facts done
     → Books (refusing (ledger_of old) n) (refusing (ledger_of new) m) facts result
@@ -49,7 +50,7 @@ passed old between new n k m facts done result same stays is noted books =
     subst B same (subst N stays (subst R (sym is) (subst M (sym noted) (beneath (ledger_of between) (ledger_of new) k facts done books))))
 
 -- If the test store fails a write before the store that it wraps receives it, then the result
--- satisfies the guarantees of a failed write.
+-- satisfies the guarantees of a failed write (no record was added).
 refused_at : (ledger : Ledger) (n : Failures) (facts : List Fact) (fault : BooksFault) → (facts ≡ [] → ⊥)
     → Books (refusing ledger n) (refusing ledger (faults_after {T = Unit {0}} (Err fault) n)) facts (Err fault)
 refused_at ledger n facts fault some = record {

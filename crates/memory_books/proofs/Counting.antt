@@ -1,4 +1,5 @@
--- Lemmas about the number of meters and the latest timestamp of a store after records are added.
+-- Lemmas: the number of meters and the latest timestamp of a store agree with the records after
+-- each new record.
 use Rattle.std.proofs.Common.{◌≡◌, ℕ, ◌+◌, ◌<◌, ◌≤◌, max, min, List, [], ◌∷◌, ◌++◌, reverse, take, length, get_or, ap, ◌∙◌, Option, Some, None, arith}
 use Rattle.std.specs.List.{cons_option}
 use Rattle.std.proofs.lemmas.List.{length-reverse, length-append, length-take-le, reverse-append, take_more}
@@ -22,8 +23,8 @@ no_more [] = omega arith
 no_more (f ∷ known) =
     omega (arith, one_more (as_opening f) (openings_in known), at_most_one (as_opening f), no_more known)
 
--- Suppose that the number of meters and the greatest timestamp agree with the records. If both are
--- updated for one more record, they agree with the records including this one.
+-- Suppose that a store's number of meters and greatest timestamp agree with its records. If both
+-- are updated for one more record, they agree with the records including this one.
 pub figures_after : (old new : Figures) (f : Fact) (known : List Fact) → AreFigures old known → length known < 18446744073709551615
     → new.installations ≡ min (old.installations + length (openings_in (f ∷ []))) 18446744073709551615
     → new.latest ≡ max (moment_in f) old.latest → AreFigures new (f ∷ known)

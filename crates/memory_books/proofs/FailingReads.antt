@@ -1,4 +1,5 @@
--- Lemmas about lookups in a test store, which wraps another store and fails at one chosen call.
+-- Lemmas: lookups in a test store satisfy the guarantees of a lookup (no record changes, and
+-- failures are counted). The test store wraps another store and fails at one chosen call.
 use Rattle.std.proofs.Common.{◌≡◌, ◌∙◌, List, ap, sym, subst, refl, Result, Ok}
 use Rattle.std.specs.Prelude.{IfOk}
 use Rattle.office_events.specs.declared.facts.Fact.{Fact}
@@ -19,7 +20,7 @@ beneath old new n result reads = record {
 }
 
 -- If the test store passes a lookup on to the store that it wraps, then the result satisfies the
--- guarantees of a lookup.
+-- guarantees of a lookup (no record changes, and failures are counted).
 pub read_on : {T : Type 0} → (old between new : ListBooks) (n k m : Failures) (found result : Result T BooksFault)
     → between ≡ old → k ≡ n → result ≡ found → m ≡ faults_after found k → OnlyReads (ledger_of between) (ledger_of new) found
     → OnlyReads (refusing (ledger_of old) n) (refusing (ledger_of new) m) result
@@ -31,7 +32,8 @@ read_on {T} old between new n k m found result same stays is noted reads =
     subst B same (subst N stays (subst R (sym is) (subst M (sym noted) (beneath (ledger_of between) (ledger_of new) k found reads))))
 
 -- If the test store passes a lookup on to the store that it wraps and fails afterwards, then the
--- result satisfies the guarantees of a failed lookup.
+-- result satisfies the guarantees of a failed lookup. No record changes, and the failure is
+-- counted.
 pub read_first : (old between new : ListBooks) (n k m : Failures) (x : Unit {0}) (handed result : Result (Unit {0}) BooksFault)
     → Ok x ≡ handed → k ≡ faults_after handed n → new ≡ between → m ≡ faults_after result k
     → OnlyReads (ledger_of old) (ledger_of between) handed → OnlyReads (refusing (ledger_of old) n) (refusing (ledger_of new) m) result
@@ -43,8 +45,8 @@ read_first old between new n k m x handed result whole stays same noted reads =
       keeps = keeps (ledger_of old) (ledger_of between) n m reads.keeps;
     })
 
--- If the test store passes a lookup on to the store that it wraps, then both return the same
--- result.
+-- If the test store returns the result of the store that it wraps, then a property of the wrapped
+-- store's successful result also holds for the test store's result.
 pub as_found : {T : Type 0} (So : T → Type 0) (found result : Result T BooksFault) → result ≡ found → IfOk found So → IfOk result So
 as_found {T} So found result is so = let P : Result T BooksFault → Type 0 = λ r. IfOk r So in subst P (sym is) so
 

@@ -1,4 +1,5 @@
--- Lemmas about queries that pass all requested rows to a sink, which is a visitor of rows.
+-- Lemmas: a query that passes exactly the requested rows to a sink (a visitor of rows) satisfies
+-- the guarantees of a query for rows (`HandsOn`).
 use Rattle.std.proofs.Common.{List, length, sym, subst, Ok, arith}
 use Rattle.std.proofs.lemmas.List.{take_all}
 use Rattle.interval_core.specs.declared.shares.Share.{Share}
@@ -10,8 +11,8 @@ use Rattle.office_books.specs.Rows.{TakesAll, HandsOn}
 use Rattle.office_books.specs.Spans.{rows_within}
 use Rattle.office_events.specs.declared.facts.Fact.{Fact}
 
--- If a query passes exactly the requested rows of the store's records to the sink, then it
--- satisfies the guarantees of row queries.
+-- If a query passes exactly the requested rows of the store's records to the sink (a visitor of
+-- rows), then it satisfies the guarantees of row queries (`HandsOn`).
 pub all_handed_on : {S T : Type 0} (takes : S → T → S → Type 0) (old new : Ledger) (before after : S) (rows : List Fact → List T)
     → ((known : List Fact) → old.holds known → TakesAll takes before (rows known) after) → ((some : List T) × TakesAll takes before some after)
     → HandsOn takes old new before after (Ok tt) rows
@@ -23,8 +24,8 @@ all_handed_on {S} {T} takes old new before after rows all some = record {
   some = some;
 }
 
--- If a query passes exactly the rows in the time span to the sink, then the query satisfies the
--- guarantees of row queries.
+-- If a query passes exactly the rows in the requested time span to the sink (a visitor of rows),
+-- then it satisfies the guarantees of row queries (`HandsOn`).
 pub handed_on : {S : Type 0} (takes : S → Share → S → Type 0) (span : Span) (old new : Ledger) (before after : S) (rows : List Fact → List Share)
     → ((known : List Fact) → old.holds known → TakesAll (TakesWithin takes span) before (rows known) after) → TakesSome (TakesWithin takes span) before after
     → HandsOn takes old new before after (Ok tt) (λ known. rows_within span (rows known))

@@ -1,4 +1,5 @@
--- Lemmas about the query that passes the rejected readings of a meter to a sink, record by record.
+-- Lemmas: the query for the rejected readings of a meter passes exactly the requested readings to a
+-- sink (a consumer of rows), record by record.
 use Rattle.std.proofs.Common.{◌≡◌, ℕ, ◌+◌, ◌<◌, ◌&&◌, Bool, true, false, cond, List, [], ◌∷◌, ◌++◌, reverse, take, length, get_or, Option, Some, None, refl, sym, ap, subst, ◌∙◌}
 use Rattle.std.specs.List.{filter, cons_option}
 use Rattle.std.proofs.lemmas.Bool.{cond-true, cond-false}
@@ -34,8 +35,8 @@ module _ (span : Span) (meter : List ℕ) where
   abbrev among : Option HeldReading → List HeldReading
   among held = holds_within span (reverse (filter is_own (cons_option held [])))
 
-  -- After a record is added, the query's result is its earlier result, followed by the record's
-  -- rejected reading if the query requests this reading.
+  -- After a record is added, the query for rejected readings has its earlier result, followed by
+  -- the record's rejected reading if the query requests this reading.
   asked_more : (f : Fact) (known : List Fact) → asked (f ∷ known) ≡ asked known ++ asked (f ∷ [])
   asked_more f known =
       ap (λ (hs : List HeldReading). holds_within span (reverse (filter is_own hs))) (filter_map-append as_hold (f ∷ []) known)
@@ -44,16 +45,17 @@ module _ (span : Span) (meter : List ℕ) where
       ∙ filter-append (λ (held : HeldReading). is_within span held.at) (reverse (filter is_own (holds_in known))) (reverse (filter is_own (holds_in (f ∷ []))))
 
   module _ {S : Type 0} (takes : S → HeldReading → S → Type 0) (before : S) where
-    -- If a record has a rejected reading of the requested meter in the time span, then the query
-    -- passes the reading to the sink.
+    -- If a record has a rejected reading of the requested meter in the requested time span, then
+    -- the query for rejected readings passes the reading to the sink.
     pub hold_taken : (after : S) (f : Fact) (held : HeldReading) → as_hold f ≡ Some held → (same held.meter meter && is_within span held.at) ≡ true → takes before held after
         → TakesAll takes before (asked (f ∷ [])) after
     hold_taken after f held is so took =
         let P : List HeldReading → Type 0 = λ rows. TakesAll takes before rows after in
         subst P (sym (ap among is ∙ one_passes (is_own held) (λ (h : HeldReading). is_within span h.at) held so)) (after, took, refl)
 
-    -- If a rejected reading is of another meter than the requested meter, or outside the time span,
-    -- then the query leaves the sink unchanged.
+    -- Suppose that a rejected reading is of another meter than the requested meter, or outside the
+    -- requested time span. Then the query for rejected readings does not pass it to its sink (a
+    -- consumer of rows).
     pub hold_left : (f : Fact) (held : HeldReading) → as_hold f ≡ Some held → (same held.meter meter && is_within span held.at) ≡ false
         → TakesAll takes before (asked (f ∷ [])) before
     hold_left f held is so =
@@ -61,14 +63,15 @@ module _ (span : Span) (meter : List ℕ) where
         subst P (sym (ap among is ∙ none_passes (is_own held) (λ (h : HeldReading). is_within span h.at) held so)) refl
 
     -- If a record is not a rejected reading, then the query for rejected readings leaves the sink
-    -- unchanged.
+    -- (a consumer of rows) unchanged.
     pub none_left : (f : Fact) → as_hold f ≡ None → TakesAll takes before (asked (f ∷ [])) before
     none_left f is =
         let P : List HeldReading → Type 0 = λ rows. TakesAll takes before rows before in
         subst P (sym (ap among is)) refl
 
     -- The query for rejected readings visits the records one by one. After each record, the sink
-    -- has received the requested readings of all records visited so far.
+    -- (the consumer of the results) has received the requested readings of all records visited so
+    -- far.
     pub holds_more : (now after : S) (facts : List Fact) (i : ℕ) (f : Fact) → i < length facts → f ≡ get_or facts i f
         → TakesAll takes before (asked (reverse (take i facts))) now → TakesAll takes now (asked (f ∷ [])) after
         → TakesAll takes before (asked (reverse (take (i + 1) facts))) after

@@ -1,5 +1,5 @@
--- Lemmas about lookups in a store in memory. A lookup first brings the lookup tables up to date,
--- and stores its failure if memory runs out.
+-- Lemmas: lookups in a store in memory satisfy the guarantees of a lookup (unchanged records). A
+-- lookup first brings the lookup tables up to date, and stores its failure if memory runs out.
 use Rattle.std.proofs.Common.{◌≡◌, List, reverse, refl, sym, ap, subst, ◌∙◌, Option, Result, Ok}
 use Rattle.std.proofs.lemmas.List.{reverse-reverse}
 use Rattle.office_events.specs.declared.facts.Fact.{Fact}
@@ -16,13 +16,13 @@ use Rattle.memory_books.specs.Listed.{AreListed, ledger_of}
 use Rattle.memory_books.specs.Looking.{failures_in}
 use Rattle.memory_books.proofs.Adding.{one_still}
 
--- If a store in memory agrees with a list of records, then the store's list in reverse order equals
--- this list.
+-- If a store in memory agrees with a list of records, the latest first, then the store's own list
+-- in reverse order equals this list.
 pub in_turn : (books : ListBooks) (facts known : List Fact) → facts ≡ books.facts.items → AreListed books known → reverse facts ≡ known
 in_turn books facts known is listed = ap reverse (is ∙ listed.facts) ∙ reverse-reverse known
 
--- If a call changes only a store's lookup tables, and the new tables are correct, then the store
--- still agrees with the same records.
+-- If a call changes only a store's lookup tables, and the new tables agree with the store's
+-- records, then the store still agrees with the same records.
 pub keeps_facts : (old new : ListBooks) (facts : List Fact) → new.facts.items ≡ old.facts.items → new.figures ≡ old.figures → facts ≡ old.facts.items
     → (AreLawful (reverse facts) → HaveCome old.tables facts → HaveCome new.tables facts) → KeepsFacts (ledger_of old) (ledger_of new)
 keeps_facts old new facts same figures is further = record { facts = still; left = one_still old new still }
@@ -36,15 +36,16 @@ keeps_facts old new facts same figures is further = record { facts = still; left
       figures = subst (λ (f : Figures). AreFigures f known) (sym figures) listed.figures;
     }
 
--- After the lookup tables of a store are brought up to date, they agree with all records of the
--- store.
+-- After the lookup tables (in-memory indexes of the records) of a store are brought up to date,
+-- they have the content that follows from all records of the store.
 pub all_said : (old : ListBooks) (So : List Fact → Type 0) (facts known : List Fact) → facts ≡ old.facts.items
     → (AreLawful (reverse facts) → HaveCome old.tables facts → So (reverse facts)) → AreListed old known → So known
 all_said old So facts known is whole listed =
     let turned : reverse facts ≡ known = in_turn old facts known is listed in
     subst So turned (whole (subst AreLawful (sym turned) listed.lawful) (subst (HaveCome old.tables) (sym is) listed.tables))
 
--- If only `last_failure` of a store changes, then the store still agrees with the same records.
+-- If only the stored last failure (`last_failure`) of a store changes, then the store still agrees
+-- with the same records.
 noting : (books : ListBooks) (last : Option BooksFault) → KeepsFacts (ledger_of books) (ledger_of (record books { last_failure = last }))
 noting books last = record { facts = still; left = one_still books (record books { last_failure = last }) still }
   where
@@ -52,7 +53,7 @@ noting books last = record { facts = still; left = one_still books (record books
     still known listed = record { lawful = listed.lawful; facts = listed.facts; tables = listed.tables; figures = listed.figures }
 
 -- If a lookup changes nothing in the store except the stored last failure, then it satisfies the
--- guarantees of a lookup.
+-- guarantees of a lookup (unchanged records).
 pub only_noted : {T : Type 0} (books : ListBooks) (last : Option BooksFault) (answer : Result T BooksFault)
     → failures_in last ≡ faults_after answer (failures_in books.last_failure)
     → OnlyReads (ledger_of books) (ledger_of (record books { last_failure = last })) answer
@@ -61,8 +62,9 @@ only_noted books last answer noted = record {
   keeps = noting books last;
 }
 
--- Suppose that a lookup brings the store's tables up to date, and then only stores its failure, if
--- any. Then it satisfies the guarantees of a lookup.
+-- Suppose that a lookup brings the store's lookup tables (in-memory indexes of the records) up to
+-- date, and then only stores its failure, if any. Then it satisfies the guarantees of a lookup
+-- (unchanged records).
 pub ready : {T : Type 0} (old mid : ListBooks) (last : Option BooksFault) (answer : Result T BooksFault) → KeepsFacts (ledger_of old) (ledger_of mid)
     → mid.zone ≡ old.zone → mid.last_failure ≡ old.last_failure → failures_in last ≡ faults_after answer (failures_in mid.last_failure)
     → OnlyReads (ledger_of old) (ledger_of (record mid { last_failure = last })) answer

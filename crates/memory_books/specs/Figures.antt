@@ -6,8 +6,8 @@ use Rattle.office_events.specs.declared.facts.Fact.{Fact}
 use Rattle.memory_books.specs.declared.figures.Figures.{Figures}
 use Rattle.office_books.specs.Facts.{openings_in, latest_in}
 
--- True if `figures` has the number of meters that the given records install, and the greatest
--- timestamp of these records.
+-- True if `figures` (two numbers that are stored beside the records in memory) has the number of
+-- meters that the records `known` install, and the greatest timestamp of these records.
 pub record AreFigures (figures : Figures) (known : List Fact) : Type 0 where
   pub installations : figures.installations ≡ length (openings_in known)
   pub latest : figures.latest ≡ latest_in known

@@ -9,9 +9,10 @@ use Rattle.memory_books.specs.Looking.{failures_in}
 use Rattle.memory_books.specs.declared.list_books.ListBooks.{ListBooks}
 use Rattle.office_books.specs.Lawful.{AreLawful}
 
--- True if the store in memory has exactly these records, and each record is valid after the records
--- before it. The number of meters and the latest timestamp agree with all records. Each lookup
--- table agrees with the records for which it was already updated.
+-- True if the store in memory has exactly these records, and the rules for adding records accept
+-- each record after the records before it. The number of meters and the latest timestamp agree with
+-- all records. Each lookup table has the content that follows from the records for which it was
+-- already updated.
 pub record AreListed (books : ListBooks) (known : List Fact) : Type 0 where
   pub lawful : AreLawful known
   pub facts : books.facts.items ≡ reverse known
@@ -25,7 +26,8 @@ FiguresFollow facts old new = (known : List Fact) → old.facts.items ≡ revers
     → AreFigures old.figures known
     → AreFigures new.figures (with_facts facts known)
 
--- True if the store in memory agrees with one of these lists of records.
+-- True if the store in memory has exactly the records of one of the given lists. The lookup tables,
+-- the number of meters and the latest timestamp follow from these records.
 abbrev pub HasOne : ListBooks → List (List Fact) → Type 0
 HasOne books [] = ⊥
 HasOne books (known ∷ left) = AreListed books known ⊎ HasOne books left
@@ -33,7 +35,7 @@ HasOne books (known ∷ left) = AreListed books known ⊎ HasOne books left
 -- The abstract state of a store in memory, which contracts refer to. The store never returns a
 -- wrong result (it is clean), is always open, and fails only if memory runs out.
 --
--- After a crash, the store still has all of its records.
+-- In the model of a store in memory, the store still has all of its records after a crash.
 abbrev pub ledger_of : ListBooks → Ledger
 ledger_of books = record {
   holds = AreListed books;

@@ -21,8 +21,8 @@ pub struct FailingBooks {
     pub(crate) calls: u64,
     pub(crate) failing: u64,
     pub(crate) failures: Failures,
-    /// True if a failing query that passes rows to a sink first passes all of its rows. Otherwise
-    /// the query fails at once.
+    /// True if a failing query that passes rows to a sink (a consumer of rows) first passes all of
+    /// its rows. Otherwise the query fails at once.
     pub(crate) fails_after_rows: bool,
 }
 

@@ -1,4 +1,4 @@
-//! Two figures that the store updates with each record: the number of meters and the latest
+//! Two figures that a store in memory updates with each record: the number of meters and the latest
 //! timestamp. A query for a figure need not read all records.
 ghost use Rattle.std.specs.Prelude.{◌<◌, ◌∷◌, List, [], length};
 ghost use Rattle.office_events.specs.declared.facts.Fact.{Fact};

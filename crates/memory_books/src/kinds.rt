@@ -1,4 +1,5 @@
-//! Selects records by kind, and finds the timestamp of a record.
+//! Functions that return a record's content if the record is of a given kind, such as a device, and
+//! the timestamp of a record.
 ghost use Rattle.std.specs.Prelude.{◌≡◌, ◌∷◌, [], length};
 ghost use Rattle.office_books.specs.Facts.{as_device, as_hold, openings_in, moment_in};
 

@@ -1,4 +1,5 @@
-//! Implements the store in memory: a list of records with tables for lookups.
+//! Implements the store in memory: a list of records, with maps in memory that find records by a
+//! name or an idempotency key.
 ghost use Rattle.std.specs.Prelude.{◌≡◌, List, [], ◌++◌, OnOk, OnErr, IsOk};
 ghost use Rattle.office_books.specs.Faults.{faults_after};
 ghost use Rattle.office_events.specs.declared.facts.Fact.{Fact};
@@ -51,8 +52,8 @@ impl ListBooks {
         }
     }
 
-    /// Updates all lookup tables for the records that they lack. If memory runs out, some tables
-    /// remain incomplete.
+    /// Adds to each lookup table (an in-memory index of the records) the records that it lacks. If
+    /// memory runs out, some tables remain incomplete.
     fn catch_up(&mut self) -> Result<(), AllocError>
         ensures keeps { KeepsFacts (ledger_of self.old) (ledger_of self.new) }
         ensures whole { (known : List Fact) → AreListed self.old known
@@ -97,7 +98,8 @@ impl ListBooks {
     }
 }
 
-/// Returns the result of a call, and stores a lack of memory as the last failure.
+/// Converts the result of a call of the store in memory. If memory ran out, stores this as the
+/// store's last failure.
 fn note_failure<T>(
     last_failure: &mut Option<BooksFault>,
     done: Result<T, AllocError>,
@@ -297,8 +299,9 @@ impl Books for ListBooks {
     fn book(&mut self, facts: Vec<Fact>) -> Result<(), BooksFault> {
         match self.add(facts) {
             Ok(()) => {
-                // The records are stored even if the tables cannot be updated. The next lookup adds
-                // the missing records to the tables.
+                // The new records are stored even if memory runs out while the lookup tables
+                // (in-memory indexes of the records) are updated. The next lookup adds the missing
+                // records to the tables.
                 let _ = self.catch_up();
                 Ok(())
             }

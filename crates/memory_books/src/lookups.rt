@@ -49,8 +49,8 @@ fn hand_hold<K: RowSink<HeldReading>>(fact: &Fact, meter: &Name, span: Span, sin
     }
 }
 
-/// Passes the rejected readings of a meter in the time span to the sink, in the order in which they
-/// were recorded, without allocating memory.
+/// Passes the rejected readings of a meter in the given time span to the sink (a consumer of rows),
+/// in the order in which they were recorded. Allocates no memory.
 pub(crate) fn hand_holds<K: RowSink<HeldReading>>(
     facts: &[Fact],
     meter: &Name,

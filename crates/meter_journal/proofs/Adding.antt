@@ -1,5 +1,6 @@
--- Lemmas: the energy up to a new entry is split into shares, one for each quarter hour. The shares
--- are added one by one to the interval rows.
+-- Lemmas: the energy from the last valid (not voided) entry to a new entry is split into shares,
+-- one for each quarter hour. The shares are added one by one to the interval rows (energies by
+-- quarter hour).
 use Rattle.std.proofs.Common.{◌≡◌, ℕ, ◌+◌, ◌*◌, ◌^◌, ◌/◌, ◌<◌, ◌≤◌, ◌==◌, Bool, true, false, cond, List, [], ◌∷◌, refl, sym, ap, ◌∙◌, inl, arith}
 use Rattle.std.proofs.lemmas.Bool.{cond-false, eqb-true}
 use Rattle.std.proofs.lemmas.Bool.Decides.{nat_tests}

@@ -1,5 +1,5 @@
--- Lemmas: if a meter's journal is reduced to its valid (not voided) entries, the result is a
--- journal that obeys the rules.
+-- Lemmas: if a meter's journal (history) is reduced to its valid (not voided) entries, the rules
+-- for meter entries accept the resulting journal.
 use Rattle.std.proofs.Common.{◌≡◌, true, false, List, [], ◌∷◌, map, refl, sym, ap, subst, ◌∙◌, inl, inr}
 use Rattle.std.proofs.lemmas.Bool.{cases_Bool, cond-true, cond-false}
 use Rattle.energy_core.specs.declared.entries.Last.{Last}
@@ -15,8 +15,8 @@ use Rattle.meter_journal.specs.Laws.{VoidsLeaveNoTrace}
 use Rattle.meter_journal.proofs.Keeping.{rows_are_sound}
 use Rattle.meter_journal.proofs.AsEntered.{AreRowsOf, rows_are_entered, stands_on}
 
--- If each line of a meter's journal records the entry of one row of a list, then its valid entries
--- are exactly these entries.
+-- If each line of a meter's journal records the entry of one row of a list, then the journal's
+-- valid (not voided) entries are exactly the entries of these rows.
 entries_alone : (opening : Last) (rows : List EntryRow) → entries_of opening (entering rows) ≡ map (λ row. row.entry) rows
 entries_alone opening [] = refl
 entries_alone opening (row ∷ rows) = ap (λ (es : List Entry). row.entry ∷ es) (entries_alone opening rows)

@@ -1,5 +1,5 @@
--- Lemmas: the rows of a meter's journal are those of its recorded entries, in order. A void (the
--- cancellation of an entry) marks only the row of that entry.
+-- Lemmas: the rows of a meter's journal (history) are those of its recorded entries, in order. A
+-- void (the cancellation of an entry) marks only the row of that entry.
 use Rattle.std.proofs.Common.{◌≡◌, ℕ, ◌+◌, ◌<◌, ◌≤◌, ◌==◌, Bool, true, false, not, cond, ◌&&◌, ◌||◌, List, [], ◌∷◌, map, length, refl, sym, ap, subst, ◌∙◌, inl, inr, Some, arith}
 use Rattle.std.proofs.lemmas.Bool.{cases_Bool, cond-true, cond-false, eqb-true}
 use Rattle.std.proofs.lemmas.Bool.Decides.{nat_tests}
@@ -25,9 +25,9 @@ use Rattle.meter_journal.proofs.StillFitting.{rolls_of}
 abbrev pub own_rolls : EntryKind → Last → Entry → Entry
 own_rolls k last e = cond (is_reading k) (with_rolls last e) e
 
--- States that the row of a meter entry has the sequence number, the kind and the entry that the
--- journal recorded, except for the rollovers. The row is valid if and only if no void
--- (cancellation) in the journal `whole` names it.
+-- States that a meter's entry row has the sequence number, the kind and the entry that the journal
+-- (history) recorded, except for the rollovers. The row is valid if and only if no void
+-- (cancellation) in the complete journal `whole` names its number.
 pub record IsRowOf (whole : Journal) (place : ℕ) (k : EntryKind) (e : Entry) (row : EntryRow) : Type 0 where
   pub place_is : row.place ≡ place
   pub kind_is : row.kind ≡ k
@@ -152,8 +152,8 @@ void_strikes opening place whole (Entered k e ∷ lines) (row ∷ rows) h =
 void_strikes opening place whole (Held reading cause ∷ lines) rows h = void_strikes opening place whole lines rows h
 void_strikes opening place whole (Voided p ∷ lines) rows h = void_strikes opening place whole lines rows h
 
--- If the rules accept a void (the cancellation of an entry), then it names the sequence number of
--- an existing row.
+-- If the rules for meter entries accept a void (the cancellation of an entry), then it names the
+-- sequence number of an existing row.
 there_below : (place : ℕ) (whole lines : Journal) (rows : List EntryRow) (a : Around) → AreRowsOf whole lines rows
     → row_at place rows ≡ Some a → place < entered_count lines + 2
 there_below place whole [] [] a h there = absurd (cc)
@@ -169,8 +169,8 @@ there_below place whole (Entered k e ∷ lines) (row ∷ rows) a h there =
 there_below place whole (Held reading cause ∷ lines) rows a h there = there_below place whole lines rows a h there
 there_below place whole (Voided p ∷ lines) rows a h there = there_below place whole lines rows a h there
 
--- States that the rows of a meter's journal are those of its recorded entries. Also states that no
--- void (cancellation) names a sequence number that does not exist yet.
+-- States that the rows of a meter's journal (history) are those of its recorded entries. Also
+-- states that no void (cancellation) names a sequence number that does not exist yet.
 pub record AreEntered (meter : Installed) (lines : Journal) : Type 0 where
   pub rows : AreRowsOf lines lines (rows_of meter.opening lines)
   pub unnamed : (place : ℕ) → entered_count lines + 2 ≤ place → is_voided place lines ≡ false
@@ -211,8 +211,8 @@ rows_are_entered meter (Voided place ∷ lines) h =
       unnamed = λ p le. not_named p place (is_voided p lines) (above_another p place (omega (arith, lt, le))) ∙ before.unnamed p le;
     }
 
--- If the rules accept a meter entry, then it has the counter rollovers that follow from the valid
--- entry before it.
+-- If the rules for meter entries accept a meter entry, then it has the counter rollovers that
+-- follow from the valid (not voided) entry before it.
 pub settled : (meter : Installed) (es : List Entry) (k : EntryKind) (e : Entry) → EntryFits meter es k e → own_rolls k (last_after meter es) e ≡ e
 settled meter es kind.Reading (entry.Step at raw rolls) h = ap (λ n. entry.Step at raw n) (sym (rolls_of meter es at raw rolls h))
 settled meter es kind.Reading (entry.Change at before new sf) h = absurd h

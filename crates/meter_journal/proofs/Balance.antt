@@ -1,5 +1,5 @@
--- Lemmas on the balance between the energy of a meter's entries and the counts that the entries
--- record.
+-- Lemmas: the energy of a meter's entries is the sum that follows from the counts, rollovers,
+-- resets and rescales that the entries record.
 use Rattle.std.proofs.Common.{◌≡◌, ℕ, ◌+◌, ◌-◌, ◌*◌, ◌≤◌, List, [], ◌∷◌, arith}
 use Rattle.std.proofs.Math.Nat.{mul-le-mul_right}
 use Rattle.energy_core.specs.declared.entries.Entry.{Entry}

@@ -1,5 +1,5 @@
--- Lemmas on the energy that a true run (the true counts of an honest meter over time) has before
--- the start of a quarter hour.
+-- Lemmas: the recorded energy before the start of a quarter hour is bounded by the true energies of
+-- a true run (the true counts of an honest meter over time).
 use Rattle.std.proofs.Common.{◌≡◌, ℕ, ℤ, ◌+◌, ◌-◌, ◌*◌, ◌%◌, ◌<◌, ◌≤◌, ◌==◌, nat_lt, nat_le, Bool, true, false, cond, if◌then◌else◌, List, [], ◌∷◌, refl, sym, ap, ◌∙◌, inl, inr, arith}
 use Rattle.std.proofs.Math.Nat.{add-mul}
 use Rattle.std.proofs.lemmas.Bool.{cases_Bool, cond-true, cond-false, eqb-true}
@@ -98,7 +98,8 @@ none_counted : (u n : ℕ) → (n - n) * u ≡ 0
 none_counted u n = let z : n - n ≡ 0 = omega arith in let m : (n - n) * u ≡ 0 * u = ap (λ k. k * u) z in omega arith
 
 -- The energy of a run (a meter's true counts over time) before the time `bound` never exceeds the
--- energy of the complete run. Both energies are equal if the latest item is at or before `bound`.
+-- energy of the complete run. Both energies are equal if the run's latest count is at or before
+-- `bound`.
 whole_run : SharesAddUp → (ceiling : ℕ) (sf : ℤ) (first : Item) (items : List Item) (bound : ℕ) → IsTrueRun ceiling sf first items
     → (rows_before bound sf first items ≤ advance sf first (newest first items))
     × ((newest first items).at ≤ bound → rows_before bound sf first items ≡ advance sf first (newest first items))

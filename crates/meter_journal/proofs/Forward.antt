@@ -1,5 +1,5 @@
--- Lemmas on the conversion between lists of entry rows that begin with the oldest row and lists
--- that begin with the latest row.
+-- Lemmas: the functions that compute a meter's state from its entry rows, the oldest first, agree
+-- with the definitions, which take the latest row first.
 use Rattle.std.proofs.Common.{◌≡◌, ℕ, zero, suc, ◌+◌, ◌<◌, ◌≤◌, ◌==◌, Bool, true, false, cond, List, [], ◌∷◌, ◌++◌, map, reverse, take, drop, length, get_or, set, refl, sym, ap, subst, ◌∙◌, inl, inr, ◌⊎◌, Option, Some, None, arith, append_assoc, eq-eqb}
 use Rattle.std.specs.List.{find}
 use Rattle.std.specs.Option.{option_map, option_or}
@@ -18,7 +18,8 @@ reverse_cons x xs = reverse-append (x ∷ []) xs
 pub reverse_onto : {X : Type 0} (x : X) (xs ys : List X) → reverse (x ∷ xs) ++ ys ≡ reverse xs ++ x ∷ ys
 reverse_onto x xs ys = ap (λ zs. zs ++ ys) (reverse_cons x xs) ∙ append_assoc (reverse xs) (x ∷ []) ys
 
--- The counter's state after one more row follows from the row and the state before it.
+-- The counter's state after one more row of a meter's entries depends only on this row and on the
+-- state before it.
 pub last_on : (opening : Last) (row : EntryRow) (rows : List EntryRow) → last_of opening (entries_in (row ∷ rows)) ≡ following (last_of opening (entries_in rows)) row
 last_on opening row rows =
     elim (cases_Bool row.stands) [

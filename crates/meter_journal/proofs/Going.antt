@@ -1,4 +1,5 @@
--- Lemmas on the state of a meter after each row of a list.
+-- Lemmas: the state of a meter that is computed row by row is, after each row, the state after the
+-- valid (not voided) entries up to this row.
 use Rattle.std.proofs.Common.{◌≡◌, ℕ, ◌+◌, ◌*◌, ◌^◌, ◌<◌, ◌≤◌, true, false, List, [], ◌∷◌, ◌++◌, reverse, take, drop, length, get_or, refl, sym, ap, subst, ◌∙◌, inl, inr, arith, Some, None}
 use Rattle.std.proofs.lemmas.Bool.{cases_Bool, cond-true, cond-false}
 use Rattle.std.proofs.lemmas.Option.{same_Some}
@@ -26,7 +27,7 @@ account_tail : (meter : Installed) (e : Entry) (es : List Entry) → HasAccount 
 account_tail meter e es h =
     record { last_is = refl; total_is = refl; within = omega (arith, h.within, whole_with meter e es h.follow); follow = h.follow.1 }
 
--- The valid entries of the rows before the index `i`.
+-- The valid (not voided) entries of the rows before the index `i`.
 abbrev earlier : List EntryRow → (i : ℕ) → List Entry
 earlier rows i = entries_in (latest_first (take i rows))
 
@@ -44,8 +45,8 @@ account_at meter rows i h =
     ap (λ (rs : List EntryRow). reverse rs) (sym (take-append-drop i rows)) ∙ reverse-append (take i rows) (drop i rows) in
     account_below meter (reverse (drop i rows)) (reverse (take i rows)) (subst (λ (rs : List EntryRow). HasAccount meter (entries_in rs)) split h)
 
--- If the row at the index `i` is valid, then its entry is added to the valid entries of the rows
--- before it.
+-- If the row at the index `i` is valid, then its entry is added to the valid (not voided) entries
+-- of the rows before it.
 pub earlier_standing : (rows : List EntryRow) (i : ℕ) (d : EntryRow) → i < length rows → (get_or rows i d).stands ≡ true
     → earlier rows (i + 1) ≡ (get_or rows i d).entry ∷ earlier rows i
 earlier_standing rows i d lt on = ap entries_in (turned rows i d lt) ∙ entries_standing (get_or rows i d) (reverse (take i rows)) on
@@ -80,8 +81,8 @@ may_go_on meter rows i d last total well h lt on last_is total_is =
     } in
     subst (λ (l : Last). MayGoOn meter l total e) (sym last_is) (subst (λ n. MayGoOn meter (last_after meter es) n e) (sym total_is) may)
 
--- The state of a meter's counter after one more row is the state after all valid entries up to that
--- row.
+-- The state of a meter's counter after one more row is the state after all valid (not voided)
+-- entries up to that row.
 pub last_next : (meter : Installed) (rows : List EntryRow) (i : ℕ) (d : EntryRow) (last next : Last) → i < length rows
     → last ≡ last_after meter (earlier rows i) → next ≡ following last (get_or rows i d) → next ≡ last_after meter (earlier rows (i + 1))
 last_next meter rows i d last next lt last_is next_is =
@@ -107,8 +108,8 @@ total_next meter rows i d last total next h lt last_is total_is next_is =
           more ∙ ap (total_after meter) (sym (earlier_struck rows i d lt off))
     ]
 
--- If a row produces a step (an energy since the last valid entry), then the row is valid. A row
--- without a step is voided (cancelled).
+-- If a row of a meter's entries has a step (the energy since the last valid entry), then the row is
+-- valid. A row without a step is voided (cancelled).
 pub step_is : (range : ℕ) (rows : List EntryRow) (i : ℕ) (d : EntryRow) (last : Last) (step : Step) → Some step ≡ step_past range last (get_or rows i d)
     → ((get_or rows i d).stands ≡ true) × (step ≡ step_to range last (get_or rows i d).entry)
 step_is range rows i d last step is =
@@ -125,8 +126,8 @@ no_step range rows i d last is =
       | inr off ↦ off
     ]
 
--- The interval rows (energies by quarter hour) after one more valid row are those of all valid
--- entries up to that row.
+-- The interval rows (energies by quarter hour) after one more valid (not voided) row are those of
+-- all valid entries up to that row.
 pub shares_next : (meter : Installed) (rows : List EntryRow) (i : ℕ) (d : EntryRow) (last : Last) (shares next : List Share) (step : Step)
     → i < length rows → (get_or rows i d).stands ≡ true → last ≡ last_after meter (earlier rows i)
     → shares ≡ rows_of_steps (steps_after meter (earlier rows i)) → step ≡ step_to meter.range last (get_or rows i d).entry
@@ -138,8 +139,8 @@ shares_next meter rows i d last shares next step lt on last_is shares_is step_is
     ∙ ap (λ (s : Step). with_shares (rows_of_steps (steps_after meter es)) (shares_of s)) (step_is ∙ ap (λ (l : Last). step_to meter.range l e) last_is)
     ∙ ap (λ (xs : List Entry). rows_of_steps (steps_after meter xs)) (sym (earlier_standing rows i d lt on))
 
--- The energy of a meter's interval rows and the energy of the next step together are at most the
--- limit of 4 * 10^18 mWh.
+-- The energy of a meter's interval rows and the energy of the next step (to the next valid entry)
+-- are together at most the limit of 4 * 10^18 mWh.
 pub shares_within : SharesAddUp → (meter : Installed) (rows : List EntryRow) (i : ℕ) (d : EntryRow) (last : Last) (total : ℕ) (shares : List Share) (step : Step)
     → IsWellInstalled meter → HasAccount meter (entries_in (latest_first rows)) → i < length rows → (get_or rows i d).stands ≡ true
     → last ≡ last_after meter (earlier rows i) → total ≡ total_after meter (earlier rows i)

@@ -1,4 +1,5 @@
--- Lemmas on merging shares (energies of single quarter hours) into interval rows one by one.
+-- Lemmas: merging shares (energies of single quarter hours) into interval rows one by one gives the
+-- same rows as merging the complete list of shares.
 use Rattle.std.proofs.Common.{◌≡◌, ℕ, zero, suc, ◌+◌, ◌<◌, ◌≤◌, ◌==◌, Bool, true, false, cond, List, [], ◌∷◌, ◌++◌, length, get_or, set, refl, sym, ap, ◌∙◌, arith, eq-eqb}
 use Rattle.std.proofs.lemmas.Bool.{cond-true, cond-false, eqb-true}
 use Rattle.std.proofs.lemmas.Bool.Decides.{nat_tests}
@@ -46,7 +47,7 @@ joined_none [] share le = refl
 joined_none (row ∷ rows) share le = absurd (omega (arith, le))
 
 -- The interval rows that result if the shares (energies of quarter hours) of a list are merged into
--- them one by one.
+-- given interval rows one by one.
 
 abbrev pub joined_all : List Share → List Share → List Share
 joined_all rows [] = rows

@@ -1,5 +1,5 @@
--- Lemmas on adding shares (energies of single quarter hours) to interval rows, and on subtracting
--- them.
+-- Lemmas: after an entry is voided (cancelled), the interval rows result from subtracting the
+-- shares (energies by quarter hour) of removed steps and adding those of added steps.
 use Rattle.std.proofs.Common.{◌≡◌, ℕ, ◌+◌, ◌-◌, ◌%◌, ◌<◌, ◌≤◌, ◌==◌, true, false, cond, List, [], ◌∷◌, ◌++◌, refl, sym, ap, subst, ◌∙◌, inl, inr, arith, nat_lt, eq-eqb}
 use Rattle.std.specs.Prelude.{All, Contains}
 use Rattle.std.specs.List.{filter}
@@ -412,8 +412,9 @@ none_there (row ∷ rows) h = absurd (h row.start (inl refl))
 due_then : (steps steps' out put : ℕ) → steps + put ≡ steps' + out → out ≤ steps → put + (steps - out) ≡ steps'
 due_then steps steps' out put is le = omega (arith, is, le)
 
--- The interval rows (energies by quarter hour) after an entry was voided (cancelled) are the
--- updated rows that begin before the last valid entry.
+-- After a void (cancellation of an entry), energies of steps are subtracted from and added to the
+-- interval rows (energies by quarter hour). Only the rows that begin before the last valid entry
+-- remain.
 pub until_last : (f : ℕ → ℕ) (opened last last' : ℕ) (rows target : List Share) → opened ≤ last' → last' ≤ last
     → Rising rows → EachIs f rows → ((s : ℕ) → Among s rows → Lies opened last s) → ((s : ℕ) → Lies opened last s → Among s rows)
     → Rising target → EachIs f target → ((s : ℕ) → Among s target → Lies opened last' s) → ((s : ℕ) → Lies opened last' s → Among s target)
@@ -442,7 +443,8 @@ until_last f opened last last' rows target begun le up each lie back up' each' l
     ]
 
 -- States how voiding (cancelling) an entry changes the interval rows. The shares (energies by
--- quarter hour) of removed steps are subtracted, and those of added steps are added.
+-- quarter hour) of removed steps (between entries) are subtracted, and those of added steps are
+-- added.
 pub record AreExchanged (meter : Installed) (es es' : List Entry) (out put : List Step) : Type 0 where
   pub therein : AreTherein (all_shares out) (rows_of_steps (steps_after meter es))
   pub intervals : rows_of_steps (steps_after meter es')

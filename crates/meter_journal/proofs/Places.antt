@@ -1,4 +1,5 @@
--- Lemmas: the entries before each entry of a meter obey the rules.
+-- Lemmas: if the rules accept a meter's journal (history), the valid (not voided) entries before
+-- each of its rows also obey the rules for meter entries.
 use Rattle.std.proofs.Common.{◌≡◌, ℕ, ◌==◌, List, [], ◌∷◌, sym, subst, ◌∙◌, inl, inr, Some, None}
 use Rattle.std.proofs.lemmas.Bool.{cases_Bool, cond-true, cond-false}
 use Rattle.std.proofs.lemmas.Option.{same_Some}

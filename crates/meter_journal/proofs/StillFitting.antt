@@ -1,6 +1,6 @@
 -- Lemmas: suppose that two lists of entries have the same last entry, and the second list has at
--- most the energy of the first. If the rules accept a journal line after the first list, they also
--- accept it after the second list.
+-- most the energy of the first. If the rules for meter entries accept a line of a journal (a
+-- meter's history) after the first list, they also accept it after the second list.
 use Rattle.std.proofs.Common.{◌≡◌, ℕ, ◌*◌, Bool, true, false, nat_lt, if◌then◌else◌, List, refl, sym, ap, subst, ◌∙◌, Option, Some, None, Ok, arith}
 use Rattle.energy_core.specs.declared.entries.Last.{Last}
 use Rattle.energy_core.specs.declared.entries.Entry.{Entry}
@@ -21,21 +21,22 @@ use Rattle.meter_journal.specs.Journal.{is_read, rolled}
 use Rattle.meter_journal.specs.Fitting.{reading_at, IsAcceptedAs, IsEntered, EntryFits, IsPlausibleNext}
 use Rattle.meter_journal.proofs.Voiding.{Lower}
 
--- States that, if there is a next valid entry, it is a reading that the rules accept without the
--- voided (cancelled) entry before it.
+-- States that, if there is a next valid entry, it is a reading that the rules for meter entries
+-- accept without the voided (cancelled) entry before it.
 abbrev pub NextFits : Installed → List Entry → Option EntryRow → Type 0
 NextFits meter es None = Unit {0}
 NextFits meter es (Some next) = (is_read next.kind next.entry ≡ true) × IsPlausibleNext meter es next.entry
 
--- States that, if the row is valid, then the rules accept its entry after the entries `es`.
+-- States that, if the row is valid, then the rules for meter entries accept its entry after the
+-- entries `es`.
 abbrev pub StandFits : Installed → List Entry → EntryRow → Type 0
 StandFits meter es row = row.stands ≡ true → EntryFits meter es row.kind row.entry
 
 abbrev pub terms_after : Installed → List Entry → Terms
 terms_after meter es = record { ceiling = meter.ceiling; total = total_after meter es }
 
--- If the rules accept a meter reading, then it has the counter rollovers that follow from the entry
--- before it.
+-- If the rules for meter entries accept a meter reading, then it has the counter rollovers that
+-- follow from the entry before it.
 pub rolls_of : (meter : Installed) (es : List Entry) (at raw rolls : ℕ) → IsAcceptedAs meter es at raw rolls
     → rolls ≡ (if nat_lt raw (last_after meter es).raw then 1 else 0)
 rolls_of meter es at raw rolls h =
@@ -83,8 +84,8 @@ entered_lower meter es es' e low h =
     }
 
 -- Suppose that two lists of entries have the same last entry, and the second list has at most the
--- energy of the first. If the rules accept a row after the first list, they also accept it after
--- the second list, with recomputed rollovers.
+-- energy of the first. If the rules for meter entries accept a row after the first list, they also
+-- accept it after the second list, with recomputed rollovers.
 pub rolled_fits : (meter : Installed) (es es' : List Entry) (place : ℕ) (k : EntryKind) (e : Entry) (stands : Bool) → Lower meter es es'
     → StandFits meter es (record { place = place; kind = k; entry = e; stands = stands })
     → StandFits meter es' (rolled (last_after meter es') (record { place = place; kind = k; entry = e; stands = stands }))
@@ -101,8 +102,8 @@ rolled_fits meter es es' place kind.Reset (entry.Change at before new sf) true l
 rolled_fits meter es es' place kind.Rescale (entry.Step at raw rolls) true low h = λ s. absurd (h refl)
 rolled_fits meter es es' place kind.Rescale (entry.Change at before new sf) true low h = λ s. entered_lower meter es es' _ low (h refl)
 
--- If a row is voided (cancelled), then the rules still accept the next valid row, with recomputed
--- rollovers.
+-- If a row is voided (cancelled), then the rules for meter entries still accept the next valid row,
+-- with recomputed rollovers.
 pub next_fits : (meter : Installed) (es : List Entry) (place : ℕ) (k : EntryKind) (e : Entry) (stands : Bool)
     → NextFits meter es (Some (record { place = place; kind = k; entry = e; stands = stands }))
     → StandFits meter es (rolled (last_after meter es) (record { place = place; kind = k; entry = e; stands = stands }))

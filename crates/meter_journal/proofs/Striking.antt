@@ -26,7 +26,8 @@ use Rattle.meter_journal.proofs.Forward.{last_on}
 use Rattle.meter_journal.proofs.Keeping.{IsGap, entries_standing, entries_struck, follow_rest, above, here, unrolled, mapped_some}
 use Rattle.meter_journal.proofs.StillFitting.{StandFits}
 
--- If the rules accept a row, then recomputing its rollovers leaves the row unchanged.
+-- If the rules for meter entries accept a row, then recomputing its rollovers leaves the row
+-- unchanged.
 rolled_alike : (meter : Installed) (es : List Entry) (n : ℕ) (k : EntryKind) (e : Entry) (stands : Bool)
     → StandFits meter es (row_with n k e stands) → rolled (last_after meter es) (row_with n k e stands) ≡ row_with n k e stands
 rolled_alike meter es n k e false fits = refl
@@ -36,7 +37,8 @@ rolled_alike meter es n k e true fits =
 pub rolled_same : (meter : Installed) (es : List Entry) (row : EntryRow) → StandFits meter es row → rolled (last_after meter es) row ≡ row
 rolled_same meter es row fits = rolled_alike meter es row.place row.kind row.entry row.stands fits
 
--- If a row is not the voided (cancelled) row and not the next valid row, then it is unchanged.
+-- Suppose that an entry is voided (cancelled). If a row is neither the voided row nor the next
+-- valid row, then the void leaves it unchanged.
 unchanged : (place : ℕ) (next : Option EntryRow) (l : Last) (row : EntryRow) → row.place == place ≡ false → is_next next row ≡ false
     → changed_by place next l row ≡ row
 unchanged place next l row off other = cond-false _ _ _ off ∙ cond-false _ _ _ other
@@ -67,8 +69,8 @@ abbrev pub weigh : (Step → ℕ) → List Step → ℕ
 weigh w [] = 0
 weigh w (step ∷ steps) = w step + weigh w steps
 
--- The weight of the step (the energy since the last valid entry) to a row's entry, or 0 if the row
--- is voided (cancelled).
+-- The number that the function `w` gives to the step (the energy since the last valid entry) to a
+-- row's entry, or 0 if the row is voided (cancelled).
 abbrev weigh_to : (Step → ℕ) → Installed → Last → EntryRow → ℕ
 weigh_to w meter last row = cond row.stands (w (step_to meter.range last row.entry)) 0
 
@@ -99,7 +101,7 @@ between_later : (opened m n : ℕ) (steps : List Step) → m ≤ n → AllBetwee
 between_later opened m n [] le h = tt
 between_later opened m n (step ∷ steps) le h = (h.0, h.1, omega (arith, h.2, le), between_later opened m n steps le h.3)
 
--- States that the step (the energy between two entries) is an element of the list.
+-- States that a step (the energy between two entries) is an element of the given list of steps.
 abbrev pub IsOneOf : Step → List Step → Type 0
 IsOneOf step [] = ⊥
 IsOneOf step (first ∷ steps) = (first ≡ step) ⊎ IsOneOf step steps
@@ -139,7 +141,8 @@ abbrev pub Changes : Installed → (place : ℕ) → List EntryRow → Around �
 Changes meter place rows x None = IsLast meter place rows x
 Changes meter place rows x (Some next) = IsFollowed meter place rows x next
 
--- If a row is added to a meter's list, then the time of the last valid entry never decreases.
+-- If a row is added to a meter's list of entry rows, then the time of the last valid (not voided)
+-- entry never decreases.
 last_grows : (meter : Installed) (row : EntryRow) (rows : List EntryRow) → AllFollow meter.range meter.opening (entries_in (row ∷ rows))
     → (last_after meter (entries_in rows)).at ≤ (last_after meter (entries_in (row ∷ rows))).at
 last_grows meter row rows h =
@@ -166,8 +169,8 @@ one_below meter row rows step there =
       | inr off ↦ subst (λ (es : List Entry). IsOneOf step (steps_after meter es)) (sym (entries_struck row rows off)) there
     ]
 
--- `IsFollowed` describes the effect of voiding (cancelling) an entry. It is still true if a row is
--- added after the next valid row.
+-- `IsFollowed` describes how the void (cancellation) of an entry changes the next valid row. It is
+-- still true if a row is added after that row.
 row_after : (meter : Installed) (place : ℕ) (row : EntryRow) (rows : List EntryRow) (x : Around) (next : EntryRow)
     → row.place == place ≡ false → AreNumbered (row ∷ rows) → StandFits meter (entries_in rows) row
     → AllFollow meter.range meter.opening (entries_in (row ∷ rows))

@@ -29,16 +29,16 @@ row place e = record { place = place; kind = kind.Reading; entry = e; stands = t
 abbrev house : Installed
 house = record { range = 4294967296; ceiling = 100000; opening = record { at = 1000; raw = 5000; sf = pos 0 } }
 
--- A meter's journal with a reading of 5200 counts at 1900 s, and a journal that adds a reading of
--- 5300 counts at 2800 s.
+-- A meter's journal (history) with a reading of 5200 counts at 1900 s, and a journal that adds a
+-- reading of 5300 counts at 2800 s.
 abbrev one : Journal
 one = Entered kind.Reading (entry.Step 1900 5200 0) ∷ []
 
 abbrev two : Journal
 two = Entered kind.Reading (entry.Step 2800 5300 0) ∷ one
 
--- The second reading adds its energy to two quarter hours: one already has an interval row, and the
--- other gets a new row.
+-- In this example of a meter, the second reading (at 2800 s) adds its energy to two quarter hours.
+-- One of them already has an interval row, and the other gets a new row.
 
 second_step : step_on house one (entry.Step 2800 5300 0) ≡ step 1900 2800 100000
 unfolding unit_of

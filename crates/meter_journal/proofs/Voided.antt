@@ -55,8 +55,8 @@ weigh_is : (w : Step → ℕ) (steps : List Step) → weigh w steps ≡ sum_by w
 weigh_is w [] = refl
 weigh_is w (step ∷ steps) = omega (arith, weigh_is w steps, sum_by-cons w step steps)
 
--- The energies of the steps between valid entries of a meter's journal add up to the total energy
--- of the meter.
+-- The energies of the steps between valid (not voided) entries of a meter's journal (history) add
+-- up to the total energy of the meter.
 weigh_total : (meter : Installed) (lines : Journal) → IsWellInstalled meter → AreFitting meter lines
     → weigh (λ step. step.mwh) (steps_in meter lines) ≡ total_in meter lines
 weigh_total meter lines well h = weigh_is (λ step. step.mwh) (steps_in meter lines) ∙ sym (journals_are_kept meter lines well h).sound.sum

@@ -30,7 +30,8 @@ total_after meter es = whole_energy meter.range meter.opening es
 abbrev pub steps_after : Installed → List Entry → List Step
 steps_after meter es = steps_of meter.range meter.opening es
 
--- The verdict of the rules (accepted or rejected) on a reading of a meter after a list of entries.
+-- The verdict (accepted or rejected) of the rules for readings on a reading of a meter after a list
+-- of entries.
 abbrev pub verdict_after : Installed → List Entry → Reading → Verdict
 verdict_after meter es reading = verdict_on meter.range meter.ceiling meter.opening es reading
 
@@ -40,18 +41,19 @@ abbrev pub HasAccount : Installed → List Entry → Type 0
 HasAccount meter es =
     IsAccount meter.range meter.opening es (last_after meter es) (total_after meter es)
 
--- The counter's state after the last valid entry of a meter's journal.
+-- The counter's state after the last valid (not voided) entry of a meter's journal (history).
 abbrev pub last_in : Installed → Journal → Last
 last_in meter lines = last_after meter (entries_of meter.opening lines)
 
--- The energy in mWh of the valid entries of a meter's journal.
+-- The energy in mWh of the valid (not voided) entries of a meter's journal (history).
 abbrev pub total_in : Installed → Journal → ℕ
 total_in meter lines = total_after meter (entries_of meter.opening lines)
 
--- The steps (energies) between the valid entries of a meter's journal. The latest step comes first.
+-- The steps (energies) between the valid (not voided) entries of a meter's journal (history). The
+-- latest step comes first.
 abbrev pub steps_in : Installed → Journal → List Step
 steps_in meter lines = steps_after meter (entries_of meter.opening lines)
 
--- The energy by quarter hour of the valid entries of a meter's journal.
+-- The energy by quarter hour of the valid (not voided) entries of a meter's journal (history).
 abbrev pub interval_rows : Installed → Journal → List Share
 interval_rows meter lines = rows_of_steps (steps_in meter lines)

@@ -1,4 +1,4 @@
--- Defines how a new line of a meter's journal changes the meter's state.
+-- Defines how a new line of a meter's journal (history) changes the meter's state.
 use Rattle.std.specs.Prelude.{◌≡◌, ℕ, ◌+◌, ◌%◌, ◌<◌, ◌≤◌, List, ◌∷◌, All, Some, Ok}
 use Rattle.energy_core.specs.declared.entries.Entry.{Entry}
 use Rattle.energy_core.specs.declared.entries.Step.{Step}
@@ -25,8 +25,8 @@ pub record LiesWithin (opened last : ℕ) (row : Share) : Type 0 where
   pub before : row.start < last
   pub gone_on : opened < last
 
--- Theorem: the quarter hour of each interval row in a meter's journal overlaps the time from the
--- opening (first) entry to the last valid entry.
+-- Theorem: the quarter hour of each interval row in a meter's journal (history) overlaps the time
+-- from the opening (first) entry to the last valid (not voided) entry.
 abbrev pub RowsLieWithin : Type 0
 RowsLieWithin = (meter : Installed) (lines : Journal) → IsWellInstalled meter
     → AreFitting meter lines
@@ -38,14 +38,15 @@ VoidsGoNoFurther = (meter : Installed) (lines : Journal) (place : ℕ) → IsWel
     → AreFitting meter (Voided place ∷ lines)
     → (last_in meter (Voided place ∷ lines)).at ≤ (last_in meter lines).at
 
--- The step (the energy) from the last valid entry of a meter's journal to a new entry.
+-- The step (the energy) from the last valid (not voided) entry of a meter's journal (history) to a
+-- new entry.
 abbrev pub step_on : Installed → Journal → Entry → Step
 step_on meter lines e = step_to meter.range (last_in meter lines) e
 
--- States how a new entry that is added to a meter's journal changes the meter's state. The new
--- entry is the last valid entry, and the energy grows by the step to it. The step's energy is split
--- into shares, one for each quarter hour. The fields `joined` and `added` state two ways to add the
--- shares to the interval rows.
+-- States how a new entry that is added to a meter's journal (history) changes the meter's state.
+-- The new entry is the last valid (not voided) entry, and the energy grows by the step to it. The
+-- step's energy is split into shares, one for each quarter hour. The fields `joined` and `added`
+-- state two ways to add the shares to the interval rows.
 pub record ContinuesJournal (meter : Installed) (lines : Journal) (k : EntryKind) (e : Entry) :
     Type 0 where
   pub may : MayGoOn meter (last_in meter lines) (total_in meter lines) e
@@ -59,8 +60,9 @@ pub record ContinuesJournal (meter : Installed) (lines : Journal) (k : EntryKind
   pub added : interval_rows meter (Entered k e ∷ lines)
       ≡ with_each (shares_of (step_on meter lines e)) (interval_rows meter lines)
 
--- Theorem: a new entry that the rules accept changes the meter's state as `ContinuesJournal`
--- describes.
+-- Theorem: a new entry that the rules for meter entries accept becomes the last valid (not voided)
+-- entry. The energy and the interval rows grow by the step (the energy) to the entry
+-- (`ContinuesJournal`).
 abbrev pub EntriesGoOn : Type 0
 EntriesGoOn = (meter : Installed) (lines : Journal) (k : EntryKind) (e : Entry)
     → IsWellInstalled meter
@@ -73,21 +75,22 @@ pub record MoveEnergy (shares rows : List Share) : Type 0 where
   pub added : energy_in_rows (with_each shares rows) ≡ energy_in_rows rows + energy_in_rows shares
   pub taken : energy_in_rows (without_each shares rows) ≤ energy_in_rows rows
 
--- Theorem: adding and subtracting any shares (energies of quarter hours) changes the energy of any
--- interval rows as `MoveEnergy` describes.
+-- Theorem: adding shares (energies of quarter hours) to interval rows increases the energy of the
+-- rows by that of the shares. Subtracting shares never increases it (`MoveEnergy`).
 abbrev pub SharesMoveEnergy : Type 0
 SharesMoveEnergy = (shares rows : List Share) → MoveEnergy shares rows
 
--- States that the valid entries before the row `around.row` of a meter's journal obey the rules
--- (`HasAccount`). The energies of the steps between these entries add up to their total energy
--- (`IsSound`).
+-- States that the valid (not voided) entries before the row `around.row` of a meter's journal
+-- (history) obey the rules (`HasAccount`). The energies of the steps between these entries add up
+-- to their total energy (`IsSound`).
 pub record WasKept (meter : Installed) (around : Around) : Type 0 where
   pub account : HasAccount meter (entries_in around.before)
   pub sound : let es = entries_in around.before in
       IsSound meter.range meter.opening es (last_after meter es) (total_after meter es)
 
--- Theorem: the valid entries before any row of a meter's journal obey the rules (`HasAccount`). The
--- energies of the steps between these entries add up to their total energy.
+-- Theorem: the valid (not voided) entries before any row of a meter's journal (history) obey the
+-- rules (`HasAccount`). The energies of the steps between these entries add up to their total
+-- energy.
 abbrev pub PlacesWereKept : Type 0
 PlacesWereKept = (meter : Installed) (lines : Journal) (place : ℕ) (around : Around)
     → IsWellInstalled meter

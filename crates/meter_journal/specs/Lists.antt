@@ -35,14 +35,14 @@ step_past range last row = if row.stands then Some (step_to range last row.entry
 abbrev pub energy_past : (range : ℕ) → Last → EntryRow → ℕ
 energy_past range last row = if row.stands then energy_of range last row.entry else 0
 
--- The rows of a list, the oldest first, with the rollovers of each valid reading computed from the
--- valid entry before it.
+-- The rows of a meter's journal (its history), the oldest first. The rollovers of each valid (not
+-- voided) reading are computed from the valid entry before it.
 abbrev pub rolled_on : Last → List EntryRow → List EntryRow
 rolled_on last [] = []
 rolled_on last (row ∷ rows) = let next = rolled last row in next ∷ rolled_on (following last next) rows
 
--- States that the entry may follow the counter's state `last`, and that the total energy including
--- the entry stays within its limit.
+-- States that the rules for meter entries allow the entry after the counter's state `last`, and
+-- that the total energy including the entry stays within its limit.
 pub record MayGoOn (meter : Installed) (last : Last) (total : ℕ) (e : Entry) : Type 0 where
   pub booked : total ≤ MAX_TOTAL
   pub raw : last.raw < meter.range
@@ -51,7 +51,7 @@ pub record MayGoOn (meter : Installed) (last : Last) (total : ℕ) (e : Entry) :
   pub within : total + energy_of meter.range last e ≤ MAX_TOTAL
 
 -- States that `found` is the row with the sequence number `place` in a list, together with the rows
--- before it and the next valid row.
+-- before it and the next valid (not voided) row.
 abbrev pub IsFound : List EntryRow → (place : ℕ) → FoundRow → Type 0
 IsFound rows place found =
     row_at place (latest_first rows)

@@ -13,12 +13,12 @@ use Rattle.meter_journal.specs.Intervals.{with_each, without_share, without_each
 use Rattle.meter_journal.specs.Journal.{Voided, Journal, Around, entries_in, rolled, struck, rows_of, row_at}
 use Rattle.meter_journal.specs.Fitting.{AreFitting}
 
--- The counter's state after the valid entries before the row `around.row`.
+-- The counter's state after the valid (not voided) entries before the row `around.row`.
 abbrev pub last_before : (opening : Last) → Around → Last
 last_before opening around = last_of opening (entries_in around.before)
 
--- True if `row` has the sequence number of the next valid row `next`. False if no next valid row
--- exists.
+-- True if `row` has the sequence number of the next valid (not voided) row `next`. False if no next
+-- valid row exists.
 abbrev pub is_next : (next : Option EntryRow) → EntryRow → Bool
 is_next None row = false
 is_next (Some next) row = row.place == next.place
@@ -46,7 +46,8 @@ steps_out meter around =
     ++ step_to meter.range before around.row.entry ∷ []
 
 -- The step (the energy between two entries) that is added when an entry is voided (cancelled). The
--- step leads from the valid entry before to the next one, with updated rollovers.
+-- step leads from the valid entry before the voided entry to the next valid entry, with updated
+-- rollovers.
 abbrev pub steps_put : Installed → Around → List Step
 steps_put meter around =
     let before = last_before meter.opening around in step_if meter.range before
@@ -57,7 +58,7 @@ abbrev pub energy_in : List Step → ℕ
 energy_in steps = sum_by (λ step. step.mwh) steps
 
 -- The interval rows (energies by quarter hour) that begin before `last`, the time of the last valid
--- entry. No row remains if the last entry is the opening (first) entry.
+-- (not voided) entry. No row remains if the last entry is the opening (first) entry.
 abbrev pub rows_until : (opened last : ℕ) → List Share → List Share
 rows_until opened last rows =
     if last == opened then [] else filter (λ row. nat_lt row.start last) rows
@@ -81,9 +82,9 @@ pub record ExchangesSteps (meter : Installed) (lines : Journal) (place : ℕ) (a
   pub out : All IsShareable (steps_out meter around)
   pub put : All IsShareable (steps_put meter around)
 
--- States that, when an entry is voided (cancelled), the energies by quarter hour of the removed
--- steps are subtracted from the interval rows. Those of the added step are added. Rows that no step
--- touches any more are removed.
+-- States how voiding (cancelling) an entry changes a meter's interval rows. The energies of
+-- `steps_out` (the steps to and from the entry) are subtracted, and those of `steps_put` (the step
+-- in their place) are added. Rows that no step touches any more are removed.
 pub record ExchangesShares (meter : Installed) (lines : Journal) (place : ℕ) (around : Around) :
     Type 0 where
   pub therein : AreTherein (all_shares (steps_out meter around)) (interval_rows meter lines)
@@ -107,8 +108,9 @@ pub record IsVoided (meter : Installed) (lines : Journal) (place : ℕ) (around 
     pub steps : ExchangesSteps meter lines place around
     pub shares : ExchangesShares meter lines place around
 
--- Theorem: each void (cancellation of an entry) that may follow a journal changes the meter's state
--- as `IsVoided` describes.
+-- Theorem: each void (cancellation of an entry) that may follow a journal (history) changes only
+-- the entry's row and the next valid row. The steps and the interval rows (energies by quarter
+-- hour) change accordingly (`IsVoided`).
 abbrev pub VoidsChangeTwoRows : Type 0
 VoidsChangeTwoRows = (meter : Installed) (lines : Journal) (place : ℕ) (around : Around)
     → IsWellInstalled meter

@@ -1,5 +1,5 @@
-//! Checks whether the rows of a meter's tables follow from a history that the rules accept. Any
-//! program may have written the rows.
+//! Checks whether the rows of a meter's tables follow from a history that the rules for meter
+//! entries accept. Any program may have written the rows.
 
 mod carried;
 mod checks;

@@ -1,4 +1,5 @@
-//! The state of a meter after its valid entries: the counter's state and the energy in mWh.
+//! The state of a meter after its valid (not voided) entries: the counter's state and the energy in
+//! mWh.
 ghost use Rattle.std.specs.Prelude.{◌≡◌, ◌+◌, ◌≤◌, ◌<◌, true, IfOk, IfSome, IsTrue, is_some};
 ghost use Rattle.energy_core.specs.Account as account;
 ghost use Rattle.meter_journal.specs.Books as books;
@@ -15,7 +16,8 @@ use energy_core::{
 use interval_core::{Share, shares_add_up};
 use std::alloc::{AllocError, Global};
 
-/// The state of a meter's counter after the last valid entry, and the meter's energy so far in mWh.
+/// The state of a meter's counter after the last valid (not voided) entry, and the meter's energy
+/// so far in mWh.
 #[derive(Clone, Copy)]
 pub struct Tally {
     pub last: Last,
@@ -67,8 +69,8 @@ fn go_past(meter: &Installed, tally: &mut Tally, row: &EntryRow) -> Option<Step>
     Some(advance_entry(meter, tally, &row.entry))
 }
 
-/// Returns the tally (the counter's state and the energy) of a meter after the valid entries of a
-/// list of rows, the oldest row first.
+/// Returns the tally (the counter's state and the energy) of a meter after the valid (not voided)
+/// entries of a list of rows, the oldest row first.
 pub fn tally_after(meter: &Installed, rows: &[EntryRow]) -> Tally
     requires range_low { MIN_RANGE ≤ meter.now.range }
     requires range_high { meter.now.range ≤ MAX_RANGE }
@@ -89,8 +91,9 @@ pub fn tally_after(meter: &Installed, rows: &[EntryRow]) -> Tally
     tally
 }
 
-/// Returns the tally (the counter's state and the energy) of a meter after the valid entries of a
-/// list of rows. Returns `None` if a valid entry may not follow the valid entries before it.
+/// Returns the tally (the counter's state and the energy) of a meter after the valid (not voided)
+/// entries of a list of rows. Returns `None` if a valid entry may not follow the valid entries
+/// before it.
 pub fn checked_tally(meter: &Installed, rows: &[EntryRow]) -> Option<Tally>
     requires range_low { MIN_RANGE ≤ meter.now.range }
     requires range_high { meter.now.range ≤ MAX_RANGE }
@@ -128,8 +131,8 @@ pub fn checked_tally(meter: &Installed, rows: &[EntryRow]) -> Option<Tally>
     Some(tally)
 }
 
-/// Returns the energy by quarter hour of the valid entries of a list of rows, in order. The only
-/// error is out of memory.
+/// Returns the energy by quarter hour of the valid (not voided) entries of a list of rows, in
+/// order. The only error is out of memory.
 pub fn interval_rows(
     alloc: Global,
     meter: &Installed,

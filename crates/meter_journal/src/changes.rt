@@ -1,14 +1,14 @@
-//! Theorems on how a new line of a meter's journal changes the state of the meter. Each theorem is
-//! the contract of a function. The function's body calls the theorem that the proof needs, or is
-//! empty.
+//! Theorems on how a new line of a meter's journal (history) changes the state of the meter. Each
+//! theorem is the contract of a function. The function's body calls the theorem that the proof
+//! needs, or is empty.
 ghost use Rattle.meter_journal.specs.Changes.{EntriesGoOn, PlacesWereKept, RowsLieWithin};
 ghost use Rattle.meter_journal.specs.Changes.{SharesMoveEnergy, VoidsGoNoFurther};
 ghost use Rattle.meter_journal.specs.Voids.{VoidsChangeTwoRows};
 
 use interval_core::shares_add_up;
 
-/// Theorem: each interval row of a meter begins before the last valid entry, and its quarter hour
-/// ends after the opening (first) entry.
+/// Theorem: each interval row of a meter begins before the last valid (not voided) entry, and its
+/// quarter hour ends after the opening (first) entry.
 pub fn rows_lie_within()
     ensures { RowsLieWithin }
 {
@@ -20,8 +20,9 @@ pub fn voids_go_no_further()
     ensures { VoidsGoNoFurther }
 {}
 
-/// Theorem: a new entry that the rules accept becomes the last valid entry. The counter, the energy
-/// and the interval rows (energies by quarter hour) advance by the energy up to the new entry.
+/// Theorem: a new entry that the rules for meter entries accept becomes the last valid (not voided)
+/// entry. The counter, the energy and the interval rows (energies by quarter hour) advance by the
+/// energy up to the new entry.
 pub fn entries_go_on()
     ensures { EntriesGoOn }
 {
@@ -43,8 +44,8 @@ pub fn shares_move_energy()
     ensures { SharesMoveEnergy }
 {}
 
-/// Theorem: the valid entries before any entry of a meter's journal obey the rules. The energies of
-/// the steps between these entries add up to their total energy.
+/// Theorem: the valid (not voided) entries before any entry of a meter's journal obey the rules for
+/// meter entries. The energies of the steps between these entries add up to their total energy.
 pub fn places_were_kept()
     ensures { PlacesWereKept }
 {}

@@ -84,7 +84,8 @@ fn following(last: &Last, row: &EntryRow) -> Last
     }
 }
 
-/// Returns the counter's state after a meter's opening (first) entry and the valid rows of a list.
+/// Returns the counter's state after a meter's opening (first) entry and the valid (not voided)
+/// rows of a list.
 pub fn last_of_rows(opening: &Last, rows: &[EntryRow]) -> Last
     ensures { let es = journal.entries_in (lists.latest_first rows.now) in
         result ≡ last_of opening.now es }
@@ -96,8 +97,9 @@ pub fn last_of_rows(opening: &Last, rows: &[EntryRow]) -> Last
     last
 }
 
-/// Returns an entry with its rollovers computed from the counter's state `last`. A `Step` has one
-/// rollover if it shows less than this state, otherwise none. A `Change` is returned unchanged.
+/// Returns an entry with its rollovers computed from the counter's state `last`. A `Step` (an entry
+/// with one count) has one rollover if it shows less than this state, otherwise none. A `Change` (a
+/// reset or a rescale) is returned unchanged.
 fn with_rolls(last: &Last, entry: &Entry) -> Entry
     ensures { result ≡ journal.with_rolls last.now entry.now }
 {
@@ -112,7 +114,7 @@ fn with_rolls(last: &Last, entry: &Entry) -> Entry
 }
 
 /// Returns a row with its rollovers computed from the counter's state `last` before it. Only the
-/// row of a valid reading changes.
+/// row of a valid (not voided) reading changes.
 fn rolled(last: &Last, row: &EntryRow) -> EntryRow
     ensures { result ≡ journal.rolled last.now row.now }
 {
@@ -123,8 +125,8 @@ fn rolled(last: &Last, row: &EntryRow) -> EntryRow
     next
 }
 
-/// Updates the rollovers of the valid readings from the index `from` to the end of the list. `last`
-/// is the counter's state before the row at this index.
+/// Updates the rollovers of the valid (not voided) readings from the index `from` to the end of the
+/// list. `last` is the counter's state before the row at this index.
 fn roll_on(last: &Last, rows: &mut [EntryRow], from: usize)
     requires { from ≤ length rows.old }
     ensures { rows.new ≡ take from rows.old ++ lists.rolled_on last.now (drop from rows.old) }
@@ -154,7 +156,7 @@ pub fn strike(opening: &Last, rows: &mut [EntryRow], place: u64)
     roll_on(&last, rows, index + 1);
 }
 
-/// A row of a list, the row's index, and the next valid row after it.
+/// A row of a list, the row's index, and the next valid (not voided) row after it.
 #[derive(Clone, Copy)]
 pub struct FoundRow {
     pub index: usize,
@@ -162,7 +164,8 @@ pub struct FoundRow {
     pub next: Option<EntryRow>,
 }
 
-/// Returns the first valid row at or after the index `from`, or `None` if no such row exists.
+/// Returns the first valid (not voided) row at or after the index `from`, or `None` if no such row
+/// exists.
 fn next_standing(rows: &[EntryRow], from: usize) -> Option<EntryRow>
     requires { from ≤ length rows.now }
     ensures { result ≡ find (λ row. row.stands) (drop from rows.now) }

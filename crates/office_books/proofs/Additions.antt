@@ -1,6 +1,6 @@
 -- Lemmas that the records stay lawful after an accepted command adds a device, a point list, an
--- accounting register or a meter. Lawful means that the rules accept each record after the earlier
--- ones.
+-- accounting register (a named energy counter) or a meter. Lawful means that the rules for adding
+-- records accept each record after the earlier ones.
 use Rattle.std.proofs.Common.{◌≡◌, ℕ, ◌≤◌, nat_lt, nat_le, true, false, ◌||◌, List, ◌++◌, reverse, refl, sym, ◌∙◌, Option, Some, None, arith}
 use Rattle.std.specs.Option.{is_some, is_none, option_map, option_and_then, option_to_list}
 use Rattle.std.proofs.lemmas.Bool.{or_parts, ltb-false}

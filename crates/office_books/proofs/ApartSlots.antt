@@ -29,7 +29,7 @@ same_back a b h = false_from_ne_true _ (λ t.
     let here : same a b ≡ true = ap (same a) e ∙ same_refl a in
     both_ways _ h here)
 
--- True if no slot (a device with its sessions) in the list has a device with the given name.
+-- True if no slot (a device with its Modbus sessions) in the list has a device with the given name.
 abbrev pub NoneNamed : List ℕ → List Slot → Type 0
 NoneNamed name [] = Unit {0}
 NoneNamed name (slot ∷ slots) = (same name slot.device.name ≡ false) × NoneNamed name slots
@@ -57,21 +57,21 @@ device_if : (number at : ℕ) (spans : List ReadSpan) (e : Event) (slot : Slot) 
 device_if number at spans e slot true = refl
 device_if number at spans e slot false = device_reached number at spans e slot slot.present
 
--- An event leaves the device of a slot (a device with its sessions) unchanged.
+-- An event leaves the device of a slot (a device with its Modbus sessions) unchanged.
 pub device-after : (number at : ℕ) (spans : List ReadSpan) (e : Event) (slot : Slot) → (slot_after number at spans e slot).device ≡ slot.device
 device-after number at spans e slot = device_if number at spans e slot (connects e slot.device)
 
 pub device-restarted : (slot : Slot) → (slot_restarted slot).device ≡ slot.device
 device-restarted slot = refl
 
--- If a search in a list finds nothing, then the first element fails the test. A search in the rest
--- of the list finds nothing either.
+-- If a search by a condition in a list finds nothing, then the first element does not satisfy the
+-- condition. A search in the remaining elements finds nothing either.
 pub not_found_if : {X : Type 0} (b : Bool) (x : X) (r : Option X) → cond b (Some x) r ≡ None → (b ≡ false) × (r ≡ None)
 not_found_if true x r h = cc
 not_found_if false x r h = (refl, h)
 
--- If a search for a device name finds no slot, then no slot in the list has a device with this
--- name.
+-- If a search for a device name finds no slot (a device with its session), then no slot in the list
+-- has a device with this name.
 none_found : (name : List ℕ) (slots : List Slot) → slot_of slots (Some name) ≡ None → NoneNamed name slots
 none_found name [] h = tt
 none_found name (slot ∷ slots) h =

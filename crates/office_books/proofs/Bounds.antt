@@ -1,5 +1,5 @@
--- Lemmas that the timestamps and numbers of lawful records are within their limits. Lawful means
--- that the rules accept each record after the earlier ones.
+-- Lemmas that the timestamps and poll numbers of lawful records are within their limits. Lawful
+-- means that the rules for adding records accept each record after the earlier ones.
 use Rattle.std.proofs.Common.{◌≡◌, ℕ, ◌≤◌, ◌==◌, Bool, true, false, cond, List, [], ◌∷◌, refl, Option, Some, arith}
 use Rattle.std.specs.Option.{is_some}
 use Rattle.std.proofs.lemmas.Bool.Decides.{nat_tests}
@@ -19,7 +19,8 @@ here_or_before : (p : Poll) (n : ℕ) (b : Bool) (before : Option Poll) → (p.n
 here_or_before p n true before is few later h = omega (arith, same_number p.number n is, few)
 here_or_before p n false before is few later h = later h
 
--- If a poll with the number `n` was started, then `n` does not exceed the greatest poll number.
+-- If a poll with the number `n` was started, then `n` does not exceed `poll_limit`, the greatest
+-- poll number that the rules for records allow.
 pub started_numbers : (facts : List Fact) (n : ℕ) → AreLawful facts → is_some (poll_of facts n) ≡ true → n ≤ poll_limit
 started_numbers [] n h there = absurd (let e : false ≡ true = there in cc)
 started_numbers (fact.Poll p ∷ facts) n h there =

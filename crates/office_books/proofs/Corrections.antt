@@ -1,6 +1,6 @@
 -- Lemmas that the records stay lawful after an accepted command closes a meter, resets its counter
--- or changes its scale factor. Lawful means that the rules accept each record after the earlier
--- ones.
+-- or changes its scale factor. Lawful means that the rules for adding records accept each record
+-- after the earlier ones.
 use Rattle.std.proofs.Common.{◌≡◌, ℕ, ℤ, pos, negsuc, ◌≤◌, ◌≤ℤ◌, suc, int_lt, Bool, true, false, cond, ◌||◌, List, [], ◌∷◌, ◌++◌, reverse, refl, sym, subst, Option, Some, None, arith}
 use Rattle.std.specs.Prelude.{Contains}
 use Rattle.std.specs.List.{AllByRecursion, find}
@@ -28,8 +28,8 @@ use Rattle.office_books.specs.Lawful.{AreLawful}
 use Rattle.office_books.specs.Laws.{MetersAreKept}
 use Rattle.office_books.proofs.LawfulReadings.{is_open, entered_fits}
 
--- True if an entry that a command makes has no fault when it is added to the open meter of the
--- command's accounting register.
+-- True if the rules for manual entries find no fault in an entry that a command makes, for the open
+-- meter of the command's accounting register (a named energy counter).
 pub record IsFaultless (at : ℕ) (c : Command) (row : Option Installation) : Type 0 where
   pub negative : makes_fault at fault.NegativeStep c row ≡ false
   pub later : makes_fault at fault.NotLater c row ≡ false
@@ -37,8 +37,8 @@ pub record IsFaultless (at : ℕ) (c : Command) (row : Option Installation) : Ty
   pub full : makes_fault at fault.TotalFull c row ≡ false
   pub below : makes_fault at fault.NotBelowRange c row ≡ false
 
--- The records after the entry that a command makes is added for the open meter of the command's
--- accounting register.
+-- The records with the entry that a command makes for the open meter of the command's accounting
+-- register (a named energy counter). Without an open meter, no entry is added.
 abbrev entered : (at : ℕ) → Command → List Fact → Option Installation → List Fact
 entered at c facts row = reverse (option_to_list (option_and_then (made_on at c) row)) ++ facts
 

@@ -24,7 +24,8 @@ use Rattle.office_books.proofs.QuietFacts.{HoldsOfBooks, added_each, reply_each,
 abbrev pub devices_on : List Slot → List Device
 devices_on slots = map (λ slot. slot.device) slots
 
--- True if the records and the slots have the same devices, in the same order.
+-- True if the records and the list of slots (devices with their Modbus sessions) have the same
+-- devices, in the same order.
 abbrev pub HaveSameDevices : List Slot → List Fact → Type 0
 HaveSameDevices slots facts = devices_on slots ≡ reverse (devices_in facts)
 
@@ -116,8 +117,8 @@ found_is_known slots facts given slot h found =
     ∙ list_any-map its (λ (l : Slot). l.device) slots
     ∙ any_found (λ (l : Slot). is_named given l.device.name) (λ (l : Slot). its l.device) slots slot (same_refl slot.device.name) found
 
--- A slot (a device with its sessions) with a given device name exists if and only if a device
--- record has this name.
+-- A slot (a device with its Modbus sessions) with a given device name exists if and only if a
+-- device record has this name.
 pub same_names : (slots : List Slot) (facts : List Fact) → HaveSameDevices slots facts → (name : List ℕ)
     → is_some (slot_of slots (Some name)) ≡ is_some (device_of facts name)
 same_names slots facts h name =

@@ -1,5 +1,5 @@
 -- The proof that each poll ends once, by induction over the accepted events. After each event, the
--- recorded polls match the polls on the sessions, the connections of the devices.
+-- recorded polls and outcomes are those of the sessions, the connections of the devices.
 use Rattle.std.proofs.Common.{◌≡◌, ℕ, ◌≤◌, ◌==◌, Bool, true, false, cond, List, [], ◌∷◌, ◌++◌, length, map, reverse, refl, sym, ap, subst, ◌∙◌, arith, Option, Some, None, is_some}
 use Rattle.std.specs.List.{filter, flat_map}
 use Rattle.std.proofs.lemmas.Bool.{cond-false, or_parts}
@@ -37,7 +37,7 @@ use Rattle.office_books.proofs.QuietEvents.{NoneNew, connects_start, bytes_start
 use Rattle.office_books.proofs.QuietFacts.{AreQuiet, later_part_first, quiet_polls, quiet_ends, quiet_reply}
 use Rattle.office_books.proofs.StartedPolls.{numbers, command_adds, commands_settle, new_sent}
 
--- True if the recorded polls and outcomes match the polls and outcomes on the Modbus sessions. In
+-- True if the recorded polls and outcomes are those of the Modbus sessions, in any order. In
 -- addition, no poll is pending in an ended session, and no two devices have the same name.
 pub record Agree (facts : List Fact) (slots : List Slot) : Type 0 where
   pub numbered : AreNumbered (polls_in facts)
@@ -46,8 +46,8 @@ pub record Agree (facts : List Fact) (slots : List Slot) : Type 0 where
   pub over : AreOver slots
   pub apart : AreApart slots
 
--- If the records match the Modbus sessions, then each poll number occurs at most once on the
--- sessions of all devices.
+-- If the recorded polls are those of the Modbus sessions, then each poll number occurs at most once
+-- on the sessions of all devices.
 once_on : (facts : List Fact) (slots : List Slot) → Agree facts slots → (n : ℕ) → times n (numbers_in (polls_of_slots slots)) ≤ 1
 once_on facts slots h n =
     let e = times-IsPermutation n (numbers facts) (numbers_in (polls_of_slots slots)) h.started in
@@ -122,7 +122,7 @@ nothing_over slots h = let P : List Slot → Type 0 = AreOver in subst P (sym (a
 nothing_apart : (slots : List Slot) → AreApart slots → AreApart (slots ++ [])
 nothing_apart slots h = let P : List Slot → Type 0 = AreApart in subst P (sym (append-nil slots)) h
 
--- If the recorded polls match the polls on the Modbus sessions, then they still match after an
+-- If the recorded polls and outcomes are those of the Modbus sessions, then they still are after an
 -- event that adds no device.
 agree_same : (laws : SessionLaws) (number at : ℕ) (spans : List ReadSpan) (e : Event) (facts after : List Fact) (slots : List Slot) → Agree facts slots → AreFree e slots → Adds number at spans e slots facts after
     → Agree after (map (slot_after number at spans e) slots ++ [])
@@ -141,7 +141,8 @@ adds_none number at e facts slots numbered quiet none = record {
 }
 
 -- Suppose that an event starts no poll, and adds to the records only the outcomes and readings of
--- the polls that it ends. Then it satisfies `Adds`: the records change like the Modbus sessions.
+-- the polls that it ends. Then it satisfies `Adds`: the records gain the polls and outcomes that
+-- the Modbus sessions gain.
 adds_settled : (number at : ℕ) (e : Event) (facts : List Fact) (slots : List Slot) → AreNumbered (polls_in facts) → NoneNew number at e slots → Adds number at [] e slots facts (with_settled number at e slots facts)
 adds_settled number at e facts slots numbered none =
     let P : List Poll → Type 0 = AreNumbered in
@@ -152,15 +153,15 @@ adds_settled number at e facts slots numbered none =
       ended = recorded-with_settled number at e slots facts;
     }
 
--- If the recorded polls match the polls on the Modbus sessions, then they still match after an
+-- If the recorded polls and outcomes are those of the Modbus sessions, then they still are after an
 -- event that ends polls and starts none.
 agree_settled : (laws : SessionLaws) (number at : ℕ) (e : Event) (facts : List Fact) (slots : List Slot) → Agree facts slots → ((device : Device) → connects e device ≡ false) → NoneNew number at e slots
     → Agree (with_settled number at e slots facts) (map (slot_after number at [] e) slots ++ [])
 agree_settled laws number at e facts slots h never none =
     agree_same laws number at [] e facts (with_settled number at e slots facts) slots h (free_other e never slots) (adds_settled number at e facts slots h.numbered none)
 
--- If no poll is pending in an ended Modbus session, then no poll is pending in an ended session
--- after a device is added.
+-- If no poll is pending (without an outcome) in an ended Modbus session, then no poll is pending in
+-- an ended session after a device is added.
 over-push : (slots : List Slot) (device : Device) → AreOver slots → AreOver (slots ++ (record { device = device; ended = []; present = None }) ∷ [])
 over-push [] device h = (refl, tt)
 over-push (slot ∷ slots) device h = (h.0, over-push slots device h.1)
@@ -232,8 +233,8 @@ agree_commanded laws at slots facts c h new =
     agree_same laws (next_poll facts) at (spans_by facts c) (event.Command c) facts (commanded at slots facts c) slots h
     (free_other (event.Command c) (λ d. refl) slots) (command_agrees at slots facts c h)
 
--- If no added record concerns a poll, then the recorded polls still match the polls on the Modbus
--- sessions. A stored response is an example of such a record.
+-- Suppose that the recorded polls and outcomes are those of the Modbus sessions. If no added record
+-- concerns a poll, then they still are. A stored response is an example of such a record.
 agree_quiet : (added facts : List Fact) (slots : List Slot) → Agree facts slots → AreQuiet added → Agree (reverse added ++ facts) slots
 agree_quiet added facts slots h quiet =
     let P : List Poll → Type 0 = AreNumbered in
@@ -260,8 +261,8 @@ agree_asked laws at slots facts asked h new =
     agree_replied (added_by (next_poll facts) at slots facts asked.command) (reply_by at asked) facts _
     (agree_commanded laws at slots facts asked.command h new) (quiet_reply at asked)
 
--- If the recorded polls match the polls on the Modbus sessions, then they still match after the
--- program restarts.
+-- If the recorded polls and outcomes are those of the Modbus sessions, then they still are after
+-- the program restarts.
 agree_opened : (at : ℕ) (facts : List Fact) (slots : List Slot) → Agree facts slots → Agree (with_lost at facts) (map slot_restarted slots)
 agree_opened at facts slots h =
     let left = left_in facts in
@@ -310,8 +311,8 @@ all_agree laws [] accepted = record { numbered = tt; started = IsPermutation-ref
 all_agree laws (Opened at ∷ past) accepted = agree_opened at (facts_of past) (slots_of past) (all_agree laws past accepted.1)
 all_agree laws (Fed at e ∷ past) accepted = agree_fed laws past at e (all_agree laws past accepted.1) (passed (refuses past at e) accepted.0.right)
 
--- If the records match the Modbus sessions, then the recorded outcomes of a poll number equal the
--- outcomes that follow from the session events.
+-- If the recorded polls and outcomes are those of the Modbus sessions, then the recorded outcomes
+-- of a poll number equal the outcomes that follow from the session events.
 agreed : (facts : List Fact) (slots : List Slot) → Agree facts slots → (n : ℕ) → map (λ end. end.outcome) (ends_of facts n) ≡ option_to_list (outcome_in slots n)
 agreed facts slots h n =
     let polls = polls_of_slots slots in

@@ -1,4 +1,5 @@
--- Lemmas about the recorded outcomes of polls, and about records that add no outcome.
+-- Lemmas: the end of a poll adds exactly its outcome to the recorded outcomes, and adds no other
+-- poll. Records of readings add no outcome.
 use Rattle.std.proofs.Common.{◌≡◌, ℕ, ◌==◌, Bool, true, false, cond, List, [], ◌∷◌, ◌++◌, map, refl, sym, ap, ◌∙◌, Option, Some, None, append_assoc, if◌then◌else◌}
 use Rattle.std.specs.List.{filter, filter_map, flat_map, cons_option}
 use Rattle.std.specs.List.Sorted.{IsPermutation}

@@ -37,7 +37,8 @@ abbrev pub times : ℕ → List ℕ → ℕ
 times n [] = 0
 times n (x ∷ xs) = one_if (x == n) + times n xs
 
--- The outcome if it belongs to the poll with the number `n`, otherwise `None`.
+-- The outcome in a pair of a poll number and an outcome, if the poll number is `n`, otherwise
+-- `None`.
 abbrev pub is_of : ℕ → ℕ × Outcome → Option Outcome
 is_of n end = if end.0 == n then Some end.1 else None
 
@@ -50,7 +51,7 @@ are_equal a b h = grind (arith, nat_tests)
 not_equal : (a b : ℕ) → (a ≡ b → ⊥) → (a == b) ≡ false
 not_equal a b h = grind (arith, nat_tests)
 
--- Counting the elements that pass a test one by one yields the length of the filtered list.
+-- Counting the elements that satisfy a predicate one by one yields the length of the filtered list.
 counted_step : (b : Bool) (x : ℕ) (xs : List ℕ) (k : ℕ) → k ≡ length xs → one_if b + k ≡ length (cond b (x ∷ xs) xs)
 counted_step true x xs k h = omega arith
 counted_step false x xs k h = omega arith

@@ -1,4 +1,5 @@
--- The polls of all devices after an event or a restart of the program.
+-- Lemmas: after an event, the polls of all devices have their earlier numbers and outcomes and
+-- those that the event adds. After a restart of the program, each pending poll has ended as lost.
 use Rattle.std.proofs.Common.{◌≡◌, ℕ, Bool, true, false, List, [], ◌∷◌, ◌++◌, map, refl, sym, ap, ◌∙◌, Option, Some, None, append_assoc, if◌then◌else◌}
 use Rattle.std.specs.List.{filter, filter_map, flat_map}
 use Rattle.std.specs.Option.{is_none}
@@ -222,7 +223,8 @@ numbers_if : (laws : SessionLaws) (number at : ℕ) (spans : List ReadSpan) (e :
 numbers_if laws number at spans e slot true free = same_is _ _ (connected_numbers number at spans e slot.device slot.ended slot.present (free refl))
 numbers_if laws number at spans e slot false free = numbers_reached laws number at spans e slot.device slot.ended slot.present
 
--- True if every device that the event connects has no present session, so it is not connected yet.
+-- True if every device that the event connects has no present Modbus session, so it is not
+-- connected yet.
 abbrev pub AreFree : Event → List Slot → Type 0
 AreFree e [] = Unit {0}
 AreFree e (slot ∷ slots) = (connects e slot.device ≡ true → slot.present ≡ None) × AreFree e slots

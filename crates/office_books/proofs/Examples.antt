@@ -71,8 +71,8 @@ of_the_register : rows_within (Between 1800 9000) (rows_of_register facts main) 
 unfolding unit_of
 of_the_register = refl
 
--- The expected entries of the meter, and examples that list them by sequence number. The list
--- includes the voided (cancelled) entry, marked as void.
+-- The expected entries of an example meter, and examples that list the entries by sequence number.
+-- A list includes the voided (cancelled) entry, marked as void.
 abbrev opened : Last
 opened = record { at = 1000; raw = 5000; sf = pos 0 }
 
@@ -103,7 +103,8 @@ none_of_them = refl
 no_meter : entries_from facts main 1 9 ≡ []
 no_meter = refl
 
--- The list of a register's meters begins with the closed meter, which was installed first.
+-- The list of an accounting register's meters begins with the closed
+-- meter, which was installed first.
 both_meters : installations_of facts main
     ≡ record { opening = first; last = record { at = 2000; raw = 5300; sf = pos 0 }; total = 300000; ended = true }
     ∷ record { opening = second; last = record { at = 2000; raw = 7; sf = pos 1 }; total = 0; ended = false }

@@ -1,4 +1,5 @@
--- Lemmas that the rules accept each poll and each outcome after the earlier records.
+-- Lemmas: after any accepted events, the rules for the order of polls (`PollsFit`) accept each
+-- recorded poll and outcome after the records before it.
 use Rattle.std.proofs.Common.{◌≡◌, ℕ, suc, ◌+◌, ◌≤◌, ◌==◌, Bool, true, false, cond, List, [], ◌∷◌, ◌++◌, map, reverse, length, refl, sym, ap, subst, ◌∙◌, Option, Some, None, arith, if◌then◌else◌}
 use Rattle.std.specs.List.{find}
 use Rattle.std.specs.Option.{is_some}
@@ -111,7 +112,7 @@ outcome_fits : IsKeptByOutcomes PollsFit
 outcome_fits at settled facts here h =
     words_fit at settled.0 settled.1 _ (record { started = here.started; pending = here.pending }, h)
 
--- The records after one poll for each of the given sent reads is added.
+-- The records that result when a poll is added for each of the given Modbus reads that were sent.
 abbrev recorded_sends : (at : ℕ) → Device → List Send → List Fact → List Fact
 recorded_sends at device sends facts = reverse (map (poll_by at device) sends) ++ facts
 
@@ -194,8 +195,8 @@ event_fits law past ends at (event.Asked asked) p h =
     (all_quiet_fit (reply_by at asked) (reverse added ++ facts) (quiet_reply at asked)
     (command_fits at (slots_of past) facts asked.command (same_devices past) few h))
 
--- If Modbus sessions end only pending polls and each poll ends once, then after any accepted
--- events, the rules accept each poll and each outcome.
+-- Suppose that Modbus sessions end only pending polls and each poll ends once. Then, after any
+-- accepted events, the rules for the order of polls (`PollsFit`) accept each poll and each outcome.
 pub polls_fit : SettlesPending → ((history : History) → AreAccepted history → PollsEndOnce history) → (history : History) → AreAccepted history
     → PollsFit (facts_of history)
 polls_fit law once [] h = tt

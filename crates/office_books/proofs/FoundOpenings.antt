@@ -7,7 +7,8 @@ use Rattle.office_books.specs.Facts.{same, openings_in, opening_of, installed_at
 use Rattle.office_books.specs.Lawful.{AreLawful}
 use Rattle.office_books.proofs.Lookups.{AreApart, found_by_name}
 
--- If the records follow the rules (`AreLawful`), then the names of their meters are distinct.
+-- If the records follow the rules for adding records (`AreLawful`), then the names of their meters
+-- are distinct.
 pub openings_apart : (facts : List Fact) → AreLawful facts → AreApart (λ (o : Opening). o.meter) (openings_in facts)
 openings_apart [] h = tt
 openings_apart (fact.Device d ∷ facts) h = openings_apart facts h.1

@@ -1,4 +1,5 @@
--- Lemmas about the effect of a void, which cancels an entry, on the state of the entry's meter.
+-- Proves the theorem `VoidedEntriesGiveWay`: how a void, which cancels an entry, changes the state
+-- of the entry's meter.
 use Rattle.std.proofs.Common.{◌≡◌, ℕ, ◌+◌, if◌then◌else◌, ◌∷◌, sym, ap, ◌∙◌, Option}
 use Rattle.std.specs.Option.{is_some, option_map, option_and_then}
 use Rattle.energy_core.specs.declared.entries.Last.{Last}

@@ -1,9 +1,10 @@
--- Properties of a sink that receives rows one after another.
+-- Properties of a sink that receives rows one after another: if it received a list of rows, and
+-- then further rows, it received the concatenated list.
 use Rattle.std.proofs.Common.{List, [], ◌∷◌, ◌++◌, refl, subst}
 use Rattle.office_books.specs.Rows.{TakesAll}
 
--- If a sink received a list of rows and then one more row, then the sink received the list extended
--- by this row.
+-- If a sink (a consumer of rows) received a list of rows and then one more row, then the sink
+-- received the list extended by this row.
 pub takes_more : {S T : Type 0} (takes : S → T → S → Type 0) (before now after : S) (rows : List T) (row : T)
     → TakesAll takes before rows now → takes now row after → TakesAll takes before (rows ++ row ∷ []) after
 takes_more {S} takes before now after [] row took more =

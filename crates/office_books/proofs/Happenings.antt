@@ -25,7 +25,7 @@ EndLast (h ∷ later) = (is_close h ≡ true → later ≡ []) × EndLast later
 abbrev pub numbers_by : List session.Event → List ℕ
 numbers_by happenings = flat_map number_by happenings
 
--- The poll numbers of the given sent reads.
+-- The poll number of each `Send` (a Modbus read request that was sent) in a list.
 abbrev pub sent_numbers : List Send → List ℕ
 sent_numbers sends = map (λ send. send.number) sends
 
@@ -91,8 +91,8 @@ same_settled number at spans (event.Command c) device before =
 same_settled number at spans (event.Asked asked) device before =
     command_settles number at spans asked.command device before ∙ sym (command_settles number at [] asked.command device before)
 
--- The Modbus session events of a polling round start exactly the polls of the reads that the round
--- sends.
+-- The Modbus session events of a polling round (the polls of one device, one for each read) start
+-- exactly the polls of the reads that the round sends.
 pub round_numbers : (b : Bool) (at : ℕ) (device : Device) (sends : List Send)
     → numbers_by (if b then map (start_by at device) sends else []) ≡ (if b then sent_numbers sends else [])
 round_numbers true at device sends = starts_number at device sends

@@ -1,4 +1,5 @@
--- Examples of queries for rejected readings by time span, with readings of two meters.
+-- Examples of queries for the rejected readings of a meter by time span, with readings of two
+-- meters.
 use Rattle.std.proofs.Common.{◌≡◌, ℕ, pos, List, [], ◌∷◌, refl}
 use Rattle.energy_core.specs.declared.verdicts.Cause.TheVariants as cause
 use Rattle.office_events.specs.declared.facts.HeldReading.{HeldReading}
@@ -22,7 +23,7 @@ another = record { meter = m2; poll = 2; at = 1500; raw = 9; sf = pos 1; cause =
 abbrev second : HeldReading
 second = record { meter = m1; poll = 3; at = 2000; raw = 8; sf = pos 0; cause = cause.TooFast }
 
--- The example records, the latest first.
+-- The records of the examples of rejected readings, the latest first.
 abbrev facts : List Fact
 facts = fact.Hold second ∷ fact.Hold another ∷ fact.Hold first ∷ []
 

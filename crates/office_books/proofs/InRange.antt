@@ -1,4 +1,5 @@
--- Lemmas that the counter values, scale factors and energies of installed meters are in range.
+-- Lemmas that the counter values, scale factors and energies of installed meters are in range, so
+-- that the next entry can be judged without overflow.
 use Rattle.std.proofs.Common.{◌≡◌, ℕ, ◌≤◌, List, [], ◌∷◌, refl, sym, subst, ◌∙◌, inl, inr, Option, Some, None}
 use Rattle.std.specs.Option.{option_map, option_and_then}
 use Rattle.std.proofs.lemmas.Bool.{cases_Bool, cond-true, cond-false}

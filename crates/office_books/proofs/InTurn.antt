@@ -56,8 +56,8 @@ by_line P facts o meter line fits there here elsewhere =
     (here (subst (λ (x : Opening). journals.Fits (installed x) (journal_of facts x.meter) line) is fits.fits)))
     (λ e. subst (λ b. P (cons_option (cond b (Some line) None) (journal_of facts o.meter))) (sym e) elsewhere)
 
--- If the records follow the rules (`AreLawful`), then the timestamp of a meter's last entry is at
--- most the latest timestamp of the records.
+-- If the records follow the rules for adding records (`AreLawful`), then the timestamp of a meter's
+-- last entry is at most the latest timestamp of the records.
 pub last_is_recorded : VoidsGoNoFurther → (facts : List Fact) (o : Opening) → AreLawful facts → IsInstalled facts o → last_at facts o ≤ latest_in facts
 last_is_recorded law [] o h there = absurd (cc)
 last_is_recorded law (fact.Device d ∷ facts) o h there = omega (arith, last_is_recorded law facts o h.1 there)
@@ -150,7 +150,8 @@ still_in_turn law f facts [] h turn = tt
 still_in_turn law f facts (o ∷ os) h turn =
     (still_installed f facts o h turn.0, all_still_over law f facts o.at os h turn.1, still_in_turn law f facts os h turn.2)
 
--- If meters were closed at a time, then they are also closed at every later time.
+-- If all meters of a list were closed at or before some time, then also at or before each time that
+-- is not earlier than the latest record.
 over_by_now : VoidsGoNoFurther → (facts : List Fact) (at now : ℕ) (os : List Opening) → AreLawful facts → latest_in facts ≤ now
     → AllOver facts at os → AllOver facts now os
 over_by_now law facts at now [] h latest over = tt
@@ -209,8 +210,8 @@ opened_in_turn law p facts register h turn =
       | inr e ↦ subst (InTurn (f ∷ facts)) (sym (cond-false _ _ _ e)) (still_in_turn law f facts os h turn)
     ]
 
--- If the records follow the rules (`AreLawful`), then each meter of an accounting register was
--- opened after the register's earlier meters were closed.
+-- If the records follow the rules for adding records (`AreLawful`), then each meter of an
+-- accounting register was opened after the register's earlier meters were closed.
 pub in_turn : VoidsGoNoFurther → (facts : List Fact) (register : List ℕ) → AreLawful facts → InTurn facts (openings_at facts register)
 in_turn law [] register h = tt
 in_turn law (fact.Device d ∷ facts) register h = still_in_turn law (fact.Device d) facts (openings_at facts register) h (in_turn law facts register h.1)

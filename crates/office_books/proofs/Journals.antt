@@ -1,5 +1,5 @@
--- Lemmas about the journals (histories) of meters. If the rules accept each record after the
--- earlier ones, then the rules for each meter's journal accept each of its lines.
+-- Lemmas about the journals (histories) of meters. If the rules for adding records accept each
+-- record after the earlier ones, then the rules for each meter's journal accept each of its lines.
 use Rattle.std.proofs.Common.{◌≡◌, ℕ, true, false, cond, List, [], ◌∷◌, refl, sym, ap, subst, ◌∙◌, inl, inr, Option, Some, None}
 use Rattle.std.specs.List.{cons_option}
 use Rattle.std.proofs.lemmas.Bool.{cases_Bool, cond-true, cond-false}
@@ -80,8 +80,9 @@ one_line facts o meter line fits there rest =
     subst (λ b. journals.AreFitting (installed o) (cons_option (cond b (Some line) None) (journal_of facts o.meter))) (sym e) (here, rest))
     (λ e. subst (λ b. journals.AreFitting (installed o) (cons_option (cond b (Some line) None) (journal_of facts o.meter))) (sym e) rest)
 
--- After a new opening (installation record) is recorded, a search for a meter's name finds the new
--- opening or an earlier opening.
+-- Suppose that a search for a meter's name finds an opening (installation record) after a new
+-- opening was recorded. Then the found opening is the new one, or the search also found it before
+-- the new one was recorded.
 pub by_opening : {P : Type 0} (facts : List Fact) (p o : Opening) → IsInstalled (fact.Opening p ∷ facts) o
     → (p ≡ o → P) → (IsInstalled facts o → P) → P
 by_opening facts p o found here elsewhere =
@@ -89,7 +90,8 @@ by_opening facts p o found here elsewhere =
     (λ e name. here (same_Some p o (sym (cond-true _ _ _ e) ∙ found)))
     (λ e. elsewhere (sym (cond-false _ _ _ e) ∙ found))
 
--- If a meter is installed, then the rules accept each line of the meter's journal (history).
+-- If a meter is installed, then the rules for meter entries accept each line of the meter's journal
+-- (history) after the lines before it.
 pub installed_fits : (facts : List Fact) (o : Opening) → AreLawful facts → IsInstalled facts o → Fitting facts o
 installed_fits [] o h there = tt
 installed_fits (fact.Device d ∷ facts) o h there = installed_fits facts o h.1 there

@@ -100,7 +100,8 @@ settled_is number at e (slot ∷ slots) facts =
     settled_is number at e slots (with_outcomes at (settled_by number at e slot) facts)
     ∙ sym (outcomes-append at (settled_by number at e slot) (settled_on_all number at e slots) facts)
 
--- The result of a poll that was pending when the program restarted: the poll is lost.
+-- The result of a poll that was pending (without an outcome) when the program restarted: the poll
+-- is lost.
 abbrev pub as_lost : Poll → ℕ × session.Settlement
 as_lost poll = (poll.number, session.Lost Restart)
 

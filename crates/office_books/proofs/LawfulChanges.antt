@@ -1,5 +1,6 @@
 -- Lemmas that the records stay lawful after a void (cancellation) of an entry and after an exchange
--- of meters. Lawful means that the rules accept each record after the earlier ones.
+-- of meters. Lawful means that the rules for adding records accept each record after the earlier
+-- ones.
 use Rattle.std.proofs.Common.{◌≡◌, ℕ, ℤ, pos, negsuc, ◌<◌, ◌≤◌, ◌≤ℤ◌, max, nat_lt, Bool, true, false, cond, ◌&&◌, List, ◌∷◌, refl, sym, ap, ◌∙◌, Option, Some, None, arith}
 use Rattle.std.specs.List.{cons_option, AllByRecursion}
 use Rattle.std.specs.Option.{is_some, option_map, option_and_then}
@@ -129,7 +130,7 @@ void_by past at place (Some m) h taken =
     ((void_fits facts m place (opening_of facts m) refl last.0 none, ltb-false moment_limit at limit.0), h)
 
 -- If a void (cancellation) of an entry is accepted, then the records with the void still follow the
--- rules (`AreLawful`).
+-- rules for adding records (`AreLawful`).
 pub void_lawful : (past : History) (at : ℕ) (c : VoidEntry) → AreLawful (facts_of past) → refusal_of past at (event.Command (command.Void c)) ≡ None
     → AreLawful (facts_of (Fed at (event.Command (command.Void c)) ∷ past))
 void_lawful past at c h taken = void_by past at c.place c.meter h taken
@@ -153,8 +154,8 @@ free_after facts o r e is =
     ap (λ (x : Option Opening). option_and_then if_open (option_map (installation_of (f ∷ facts)) x)) is
     ∙ none_open (f ∷ facts) o (is_ended (f ∷ facts) o) refl (ended_now facts o o.meter e (same_itself o.meter))
 
--- If an exchange is accepted, then the rules accept its records. The records are the closing of the
--- old meter and the opening (first entry) of the new meter.
+-- If an exchange of meters is accepted, then the rules for meter entries accept its records. The
+-- records are the closing of the old meter and the opening (first entry) of the new meter.
 pub exchange_fits : (facts : List Fact) (at : ℕ) (r m : List ℕ) (o : Opening) (last rolls raw ceiling range : ℕ) (sf : ℤ) → AreLawful facts
     → at ≤ moment_limit → latest_in facts ≤ at
     → opening_of facts o.meter ≡ Some o → installed_at facts r ≡ Some o → is_ended facts o ≡ false

@@ -1,5 +1,5 @@
 -- The lemma that the records stay lawful after an accepted exchange of meters. Lawful means that
--- the rules accept each record after the earlier ones.
+-- the rules for adding records accept each record after the earlier ones.
 use Rattle.std.proofs.Common.{◌≡◌, ℕ, ℤ, pos, negsuc, ◌<◌, ◌≤◌, ◌≤ℤ◌, nat_lt, nat_le, Bool, true, false, cond, ◌||◌, List, [], ◌∷◌, ◌++◌, reverse, refl, sym, subst, Option, Some, None, arith}
 use Rattle.std.specs.Option.{option_map, option_and_then, option_to_list, is_none, is_some}
 use Rattle.std.proofs.lemmas.Bool.{or_parts, ltb-false}
@@ -73,7 +73,8 @@ record IsGood (facts : List Fact) (m : List ℕ) (range raw ceiling : ℕ) (sf :
   scaled : (negsuc 2 ≤ℤ sf) × (sf ≤ℤ pos 3)
   limited : (1 ≤ ceiling) × (ceiling ≤ 1000000000)
 
--- True if an exchange of meters closes the old meter without the given fault.
+-- True if closing the old meter, as an exchange of meters does, does not break the rule for meter
+-- entries that the fault `why` names.
 abbrev NoFault : (at : ℕ) → Exchange → Option Installation → TermFault → Type 0
 NoFault at c row why = makes_fault at why (command.Exchange c) row ≡ false
 

@@ -1,5 +1,5 @@
--- The proof that the records after any accepted events are lawful: the rules accept each record
--- after the earlier ones.
+-- The proof that the records after any accepted events are lawful: the rules for adding records
+-- accept each record after the earlier ones.
 use Rattle.std.proofs.Common.{◌≡◌, ℕ, ◌+◌, ◌≤◌, nat_lt, false, List, [], ◌∷◌, ◌++◌, map, reverse, length, refl, sym, ap, subst, Option, Some, None, arith}
 use Rattle.std.specs.List.{flat_map}
 use Rattle.std.specs.Option.{option_and_then}
@@ -62,7 +62,8 @@ lost_kept at facts timely h =
     (outcomes_kept at all facts timely h
     (open_once facts (settled_numbers all) h.lawful (λ n. omega (arith, ap (times n) (lost_numbers (pending_in facts))))))
 
--- If a start of the program is accepted, then the records after the start still follow the rules.
+-- If a start of the program is accepted, then the records after the start still follow the rules
+-- (`AreLawful`: each record is valid after the earlier ones).
 opened_kept : (at : ℕ) (facts : List Fact) → AreLawful facts → opening_refusal_of facts at ≡ None → AreKept at (with_lost at facts)
 opened_kept at facts h taken =
     let back = none_parts (nat_lt at (latest_in facts)) refusal.ClockBack _ taken in
@@ -162,8 +163,9 @@ after_event settles law past at (event.Command c) accepted planned pending h lat
 after_event settles law past at (event.Asked asked) accepted planned pending h latest kept time =
     asked_kept law past at asked h latest planned accepted
 
--- If Modbus sessions end only pending polls, each poll ends once and the energy of meters balances,
--- the records after any accepted events are lawful.
+-- Suppose that Modbus sessions end only pending polls, each poll ends once, and the energy of
+-- meters balances. Then the records after any accepted events are lawful (the rules for adding
+-- records accept each one).
 kept : SettlesPending → ((history : History) → AreAccepted history → PollsEndOnce history) → MetersAreKept → (history : History)
     → AreAccepted history → ListsArePlanned history → AreKept (latest_of history) (facts_of history)
 kept settles once law [] h planned = record { lawful = tt; latest = omega arith }

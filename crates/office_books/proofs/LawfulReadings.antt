@@ -1,5 +1,5 @@
--- Lemmas that the rules accept the records of an open meter: an accepted reading, a rejected
--- reading, and a manual entry.
+-- Lemmas that three kinds of records of an open meter follow the rules for meter entries: an
+-- accepted reading, a rejected reading, and a manual entry without a fault.
 use Rattle.std.proofs.Common.{◌≡◌, ℕ, ℤ, ◌≤◌, nat_lt, Bool, true, false, cond, ◌||◌, List, ◌∷◌, ◌++◌, reverse, refl, sym, ap, subst, Option, Some, None, arith}
 use Rattle.std.specs.List.{AllByRecursion}
 use Rattle.std.specs.Option.{option_map, option_and_then, option_to_list, is_some}
@@ -74,7 +74,7 @@ by_verdict facts o poll r (verdict.Accepted rolls step) h there unended started 
     ((record { opening = o; there = there; fits = (unended, record { step = step; accepted = here }) }, timely), h)
 
 -- If a poll was started, then the records with a reading of the poll's response still follow the
--- rules (`AreLawful`).
+-- rules for adding records (`AreLawful`).
 pub reading_fits : (facts : List Fact) (register : List ℕ) (poll : ℕ) (r : Reading) (row : Option Installation) → AreLawful facts
     → is_some (poll_of facts poll) ≡ true → r.at ≤ moment_limit
     → open_at facts register ≡ row → AreLawful (with_reading poll r row facts)
@@ -84,7 +84,8 @@ reading_fits facts register poll r (Some row) h started timely e =
     subst (λ (x : Installation). AreLawful (with_reading poll r (Some x) facts)) open_there.row_is
     (by_verdict facts open_there.opening poll r (judgement (installation_of facts open_there.opening) r) h open_there.installed open_there.unended started timely refl)
 
--- Lemmas about manual entries of an open meter.
+-- Lemmas that the rules for meter entries accept a manual entry (made by a person) of an open meter
+-- if it has no fault.
 
 pub entered_fits : (facts : List Fact) (o : Opening) (e : Entry)
     → AllByRecursion (λ why. entering.refuses o.range (installation_of facts o).total (installation_of facts o).last e why ≡ false) entering.faults
@@ -98,7 +99,7 @@ entered_fits facts o e all =
     }
 
 -- If a manual entry has no fault for the open meter, then the records with the entry still follow
--- the rules (`AreLawful`). Without an open meter, no entry is added.
+-- the rules for adding records (`AreLawful`). Without an open meter, no entry is added.
 manual_row : (facts : List Fact) (at : ℕ) (c : Manual) (register : List ℕ) (row : Option Installation) → AreLawful facts → open_at facts register ≡ row
     → read_at at c.at ≤ moment_limit
     → makes_fault at fault.NegativeStep (command.Manual c) row ≡ false → makes_fault at fault.NotLater (command.Manual c) row ≡ false
@@ -116,7 +117,8 @@ manual_row facts at c register (Some row) h is timely a b d e f =
     subst (λ (y : Installation). AreLawful (fact.Entry (record { meter = y.opening.meter; kind = kind.Manual; entry = x }) ∷ facts)) open_there.row_is
     ((record { opening = o; there = open_there.installed; fits = (open_there.unended, entered_fits facts o x own) }, timely), h)
 
--- If a manual reading is accepted, then its time does not exceed the greatest timestamp.
+-- If a manual reading is accepted, then its time does not exceed the greatest timestamp that a
+-- record may have.
 read_in_time : (at : ℕ) (given : Option ℕ) → is_later at given ≡ false → at ≤ moment_limit → read_at at given ≤ moment_limit
 read_in_time at None h timely = timely
 read_in_time at (Some earlier) h timely = let before : earlier ≤ at = ltb-false at earlier h in omega (arith, before, timely)
@@ -137,8 +139,8 @@ manual_by past at raw rolls given (Some register) h taken =
     manual_row facts at c register (open_at facts register) h refl (read_in_time at given later.1 (ltb-false moment_limit at limit.0))
     four.0 four.1.0 four.1.1.0 four.1.1.1.0 beyond.1
 
--- If a manual entry is accepted, then the records with the entry still follow the rules
--- (`AreLawful`).
+-- If a manual entry is accepted, then the records with the entry still follow the rules for adding
+-- records (`AreLawful`).
 pub manual_lawful : (past : History) (at : ℕ) (c : Manual) → AreLawful (facts_of past) → refusal_of past at (event.Command (command.Manual c)) ≡ None
     → AreLawful (facts_of (Fed at (event.Command (command.Manual c)) ∷ past))
 manual_lawful past at c h taken = manual_by past at c.raw c.rolls c.at c.register h taken

@@ -1,4 +1,5 @@
--- Properties of the loop that lists the entries of a meter in order.
+-- Properties of the loop that lists the entries of a meter in order: each iteration adds the next
+-- entry if it is requested and the list is not full.
 use Rattle.std.proofs.Common.{◌≡◌, ℕ, zero, suc, ◌+◌, ◌<◌, ◌≤◌, Bool, true, false, List, [], ◌∷◌, ◌++◌, reverse, take, length, get_or, inl, inr, refl, ap, ◌∙◌, arith, nat_le, append-nil}
 use Rattle.std.specs.List.{filter}
 use Rattle.std.proofs.lemmas.Bool.{cases_Bool, cond-true, cond-false}

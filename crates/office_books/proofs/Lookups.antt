@@ -1,4 +1,5 @@
--- Lookups by name in lists of devices, accounting registers and meters.
+-- Lemmas about lookups by name in lists of devices, accounting registers (named energy counters)
+-- and meters: if the names are distinct, a lookup finds the one element with the name.
 use Rattle.std.proofs.Common.{◌≡◌, ◌≢◌, ℕ, ◌<◌, Bool, true, false, cond, ◌||◌, List, [], ◌∷◌, map, refl, sym, ap, subst, ◌∙◌, inl, inr, Option, Some, None, arith}
 use Rattle.std.specs.List.{find, list_any, All, AllPairs}
 use Rattle.std.specs.Option.{is_some}
@@ -29,8 +30,8 @@ pub none_parts : {X : Type 0} (b : Bool) (x : X) (o : Option X) → cond b (Some
 none_parts true x o h = absurd (cc)
 none_parts false x o h = (refl, h)
 
--- If a search in a list finds nothing, then the first element fails the test. A search in the rest
--- of the list finds nothing either.
+-- If a search by a predicate in a list finds nothing, then the first element does not satisfy the
+-- predicate. A search in the remaining elements finds nothing either.
 pub find_none : {X : Type 0} (p : X → Bool) (x : X) (xs : List X) → find p (x ∷ xs) ≡ None → (p x ≡ false) × (find p xs ≡ None)
 find_none p x xs h = none_parts (p x) x (find p xs) h
 
@@ -39,7 +40,7 @@ passes_step : {X : Type 0} (p : X → Bool) (b : Bool) (y x : X) (o : Option X) 
 passes_step p true y x o e later h = let same_one : y ≡ x = cc in ap p (sym same_one) ∙ e
 passes_step p false y x o e later h = later h
 
--- If a search finds an element, then the element passes the test of the search.
+-- If a search by a predicate finds an element, then the element satisfies the predicate.
 pub find_passes : {X : Type 0} (p : X → Bool) (xs : List X) (x : X) → find p xs ≡ Some x → p x ≡ true
 find_passes p [] x h = absurd (cc)
 find_passes p (y ∷ ys) x h = passes_step p (p y) y x (find p ys) refl (find_passes p ys x) h
@@ -84,8 +85,8 @@ found_step name false y x xs o none later h =
       | inr other ↦ cond-false _ _ _ other ∙ later h
     ]
 
--- Suppose that the names of a list are distinct, and a search by some test finds an element. Then a
--- search by the element's name finds the same element.
+-- Suppose that the names of a list are distinct, and a search by some predicate finds an element.
+-- Then a search by the element's name finds the same element.
 pub found_by_name : {X : Type 0} (name : X → List ℕ) (p : X → Bool) (xs : List X) (x : X) → AreApart name xs
     → find p xs ≡ Some x → find (λ y. same (name y) (name x)) xs ≡ Some x
 found_by_name name p [] x apart h = absurd (cc)

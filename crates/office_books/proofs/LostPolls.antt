@@ -1,4 +1,5 @@
--- Lemmas about the polls that are lost when the program restarts.
+-- Lemmas: a restart of the program adds the outcome "lost" for each pending poll to the records,
+-- and adds no poll.
 use Rattle.std.proofs.Common.{◌≡◌, ℕ, ◌==◌, Bool, true, false, cond, List, [], ◌∷◌, ◌++◌, length, map, reverse, refl, sym, ap, ◌∙◌}
 use Rattle.std.specs.List.{filter}
 use Rattle.std.proofs.lemmas.List.{map-append, append-nil, reverse-append, reverse-reverse}

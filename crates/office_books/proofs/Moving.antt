@@ -1,4 +1,5 @@
--- Properties of sequences of calls to a store of records.
+-- Properties of sequences of calls to a store of records: if each call has the guarantees of a call
+-- (counted failures, same time zone), the sequence has them too.
 use Rattle.std.proofs.Common.{◌≡◌, ◌⊎◌, List, [], ◌∷◌, inl, inr, refl, subst, ◌∙◌, Result, Ok, Err, ap}
 use Rattle.office_events.specs.declared.facts.Fact.{Fact}
 use Rattle.office_books.specs.Lawful.{AreLawful}
@@ -8,8 +9,8 @@ use Rattle.office_books.specs.declared.failures.Failures.{Failures}
 use Rattle.office_books.specs.Faults.{FailuresAfterCalls}
 use Rattle.office_books.specs.Ledgers.{Ledger, LedgerAfterCall, LedgerAfterCalls, KeepsFacts, OnlyReads, Consults, Books, Moves, with_facts}
 
--- If one call to the store has the guarantees of a call (`LedgerAfterCall`), then it also has the
--- guarantees of a sequence of calls.
+-- If one call to the store has the guarantees of a call (`LedgerAfterCall`: counted failures, same
+-- time zone), then it also has those of a sequence of calls.
 pub passes : {T : Type 0} (old new : Ledger) (result : Result T BooksFault) → LedgerAfterCall old new result → LedgerAfterCalls old new result
 passes old new (Ok x) goes = record { clean = goes.clean; faults = goes.faults; zone = goes.zone }
 passes old new (Err (Store fault)) goes = record { clean = goes.clean; faults = goes.faults; zone = goes.zone }
@@ -18,8 +19,8 @@ passes old new (Err Memory) goes = record { clean = goes.clean; faults = inl goe
 pub consults : {T : Type 0} (old new : Ledger) (result : Result T BooksFault) → OnlyReads old new result → Consults old new result
 consults old new result reads = record { goes = passes old new result reads.goes; keeps = reads.keeps }
 
--- The guarantees of a successful sequence of calls to a store do not depend on the value that the
--- sequence returns.
+-- The guarantees of a successful sequence of calls to a store (counted failures, same time zone) do
+-- not depend on the value that the sequence returns.
 pub passes_well : {T S : Type 0} (old new : Ledger) (x : T) (y : S) → LedgerAfterCalls old new (Ok x) → LedgerAfterCalls old new (Ok y)
 passes_well old new x y goes = record { clean = goes.clean; faults = goes.faults; zone = goes.zone }
 
@@ -54,7 +55,7 @@ consults_then old between new x result first after = record {
 }
 
 -- If the lookups before a write fail, then nothing was written, and the guarantees of a failed
--- write hold.
+-- write hold (unchanged records).
 pub failed_reading : {T S : Type 0} (old new : Ledger) (known later : List Fact) (why : BooksFault) → Consults {T = T} old new (Err why)
     → Moves {T = S} old new known later (Err why)
 failed_reading old new known later why reads = record {
@@ -65,8 +66,8 @@ failed_reading old new known later why reads = record {
   goes = passes_failed old new why reads.goes;
 }
 
--- If lookups precede a write, then the guarantees of the write hold for the lookups and the write
--- together.
+-- If lookups precede a write, then the guarantees of the write (all records are written or, on an
+-- error, none) hold for the lookups and the write together.
 pub read_then : {T S : Type 0} (old between new : Ledger) (known later : List Fact) (x : T) (result : Result S BooksFault)
     → Consults old between (Ok x) → Moves between new known later result → Moves old new known later result
 read_then old between new known later x result reads moves = record {
@@ -95,8 +96,8 @@ settles old new known left facts x books h lawful may = elim (settled_or_none ol
   | inr none ↦ inr (ap (λ (fs : List Fact). with_facts fs known) none.0, none.1)
 ]
 
--- A call that adds records has all guarantees of a change (`Moves`) if the added records follow the
--- rules (`AreLawful`).
+-- A call that adds records satisfies `Moves` (the guarantees of a change of the store's records) if
+-- the added records follow the rules for adding records (`AreLawful`).
 pub booked : (old new : Ledger) (known facts : List Fact) (result : Result (Unit {0}) BooksFault)
     → (old.holds known → AreLawful (with_facts facts known)) → Books old new facts result
     → Moves old new known (with_facts facts known) result
@@ -115,7 +116,8 @@ booked old new known facts (Err why) lawful books = record {
   goes = passes old new (Err why) books.goes;
 }
 
--- The guarantees of a successful write do not depend on the value that it returns.
+-- The guarantees of a successful write (the store has all written records) do not depend on the
+-- value that it returns.
 pub answered : {T S : Type 0} (old new : Ledger) (known later : List Fact) (x : T) (y : S) → Moves old new known later (Ok x) → Moves old new known later (Ok y)
 answered old new known later x y moves = record {
   holds = moves.holds;

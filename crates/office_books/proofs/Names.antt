@@ -1,5 +1,6 @@
--- Lemmas about names, and about the open meter of an accounting register (an energy counter), in
--- lawful records. Lawful means that the rules accept each record after the earlier ones.
+-- Lemmas for lawful records, in which the rules for adding records accept each record after the
+-- earlier ones. Names are distinct, and the open meter of an accounting register (an energy
+-- counter) is its latest meter.
 use Rattle.std.proofs.Common.{◌≡◌, ℕ, true, false, cond, Bool, List, [], ◌∷◌, sym, ap, subst, ◌∙◌, inl, inr, Option, Some, None}
 use Rattle.std.specs.Prelude.{All}
 use Rattle.std.specs.List.{cons_option}

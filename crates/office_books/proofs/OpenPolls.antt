@@ -139,7 +139,8 @@ settled_keeps law P keeps past ends number at e h =
     subst P (sym (settled_is number at e (slots_of past) facts))
     (outcomes_keep P keeps at all facts h (open_once facts (settled_numbers all) ends.numbered at_most))
 
--- The result of a poll that was pending when the program restarted: the poll is lost.
+-- The result of a poll that was pending (without an outcome) when the program restarted: the poll
+-- is lost.
 abbrev as_lost : Poll → ℕ × session.Settlement
 as_lost poll = (poll.number, session.Lost Restart)
 

@@ -1,4 +1,5 @@
--- Lemmas that the rules accept outcomes and readings after the earlier records.
+-- Lemmas: after polls without an outcome get their outcomes, and after readings of started polls
+-- are recorded, the records still follow the rules (each is valid after the earlier ones).
 use Rattle.std.proofs.Common.{◌≡◌, ℕ, ◌+◌, ◌<◌, ◌≤◌, ◌==◌, true, false, cond, List, [], ◌∷◌, map, reverse, length, refl, sym, ap, subst, ◌∙◌, Option, Some, None, arith}
 use Rattle.std.specs.List.{find, filter}
 use Rattle.std.specs.Option.{is_some}
@@ -32,8 +33,8 @@ poll_skips = record { readings = record { entry = λ b. refl; hold = λ h. refl 
 ended_skips : SkipsReadings as_ended
 ended_skips = record { entry = λ b. refl; hold = λ h. refl }
 
--- True if the records are lawful (the rules accept each after the earlier ones), and no timestamp
--- is later than `at`.
+-- True if the records are lawful (the rules for adding records accept each after the earlier ones),
+-- and no timestamp is later than `at`.
 pub record AreKept (at : ℕ) (facts : List Fact) : Type 0 where
   pub lawful : AreLawful facts
   pub latest : latest_in facts ≤ at
@@ -52,8 +53,8 @@ latest_read at poll r None facts now h = h
 latest_read at poll r (Some row) facts now h =
     max_least _ (latest_in facts) at (omega (arith, now, moment_read row.opening.meter poll r (judgement row r))) h
 
--- True if the records follow the rules, no timestamp is later than `at`, and the poll of a reading
--- was started.
+-- True if the records follow the rules for adding records (`AreLawful`), no timestamp is later than
+-- `at`, and a record starts the poll with number `poll`.
 record AreRead (at poll : ℕ) (facts : List Fact) : Type 0 where
   kept : AreKept at facts
   started : IsStarted facts poll
@@ -143,7 +144,8 @@ others_open at number settlement ns facts h n among =
     absurd (omega (arith, times-cons n number ns, all.0, one)))
     (λ other none. (omega (arith, times-cons n number ns, all.0, none), still_open at (number, settlement) facts n other all.1))
 
--- After distinct polls without an outcome get their outcomes, the records still follow the rules.
+-- After distinct polls without an outcome get their outcomes, the records still follow the rules
+-- (`AreLawful`: each record is valid after the earlier ones).
 pub outcomes_kept : (at : ℕ) (settled : List (ℕ × session.Settlement)) (facts : List Fact) → at ≤ moment_limit → AreKept at facts
     → AreOpenOnce facts (settled_numbers settled) → AreKept at (with_outcomes at settled facts)
 outcomes_kept at [] facts timely h once = h

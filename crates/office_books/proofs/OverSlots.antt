@@ -1,5 +1,5 @@
--- Lemmas that no poll is pending in an ended session, which is a former connection of a device. A
--- restart of the program ends all sessions.
+-- Lemmas that no poll is pending (without an outcome) in an ended session, which is a former
+-- connection of a device. A restart of the program ends all sessions.
 use Rattle.std.proofs.Common.{◌≡◌, ℕ, Bool, true, false, List, [], ◌∷◌, ◌++◌, map, refl, sym, ap, ◌∙◌, Option, Some, None, if◌then◌else◌}
 use Rattle.std.specs.List.{flat_map}
 use Rattle.std.specs.List.Sorted.{IsPermutation}
@@ -23,7 +23,8 @@ abbrev pub AreOver : List Slot → Type 0
 AreOver [] = Unit {0}
 AreOver (slot ∷ slots) = (waiting_in (polls_on_ended slot.device slot.ended) ≡ []) × AreOver slots
 
--- The pending polls of a device are the pending polls of its present Modbus session.
+-- The pending polls (without an outcome) of a device are the pending polls of its present Modbus
+-- session.
 waiting_with : (device : Device) (ended : List EndedSession) (present : Option (List session.Event)) → waiting_in (polls_on_ended device ended) ≡ []
     → waiting_in (polls_of_slot (slot_with device ended present)) ≡ pending_on (slot_with device ended present)
 waiting_with device ended None over = over
@@ -40,7 +41,8 @@ waiting_slots (slot ∷ slots) over =
     ∙ ap (λ ns. ns ++ waiting_in (polls_of_slots slots)) (waiting_with slot.device slot.ended slot.present over.0)
     ∙ ap (λ ns. pending_on slot ++ ns) (waiting_slots slots over.1)
 
--- After a Modbus session ends with a close event, no poll of the session is pending.
+-- After a Modbus session ends with a close event, no poll of the session is pending (without an
+-- outcome).
 over_happened : (laws : SessionLaws) (device : Device) (ended : List EndedSession) (p : Option (List session.Event)) (before happenings : List session.Event) → waiting_in (polls_on_ended device ended) ≡ []
     → let slot = with_happenings (slot_with device ended p) before happenings in waiting_in (polls_on_ended slot.device slot.ended) ≡ []
 over_happened laws device ended p before [] over = over
@@ -81,7 +83,8 @@ pub over-restarted : (slots : List Slot) → AreOver slots → AreOver (map slot
 over-restarted [] over = tt
 over-restarted (slot ∷ slots) over = (over_restarted slot.device slot.ended slot.present over.0, over-restarted slots over.1)
 
--- After a restart of the program, each pending poll has ended as lost, and no poll was started.
+-- After a restart of the program, each pending poll (without an outcome) has ended as lost, and no
+-- poll was started.
 ends_with : (device : Device) (ended : List EndedSession) (present : Option (List session.Event))
     → IsPermutation (ends_in (polls_of_slot (slot_restarted (slot_with device ended present)))) (ends_in (polls_of_slot (slot_with device ended present)) ++ map lost_end (pending_on (slot_with device ended present)))
 ends_with device ended None = same_is _ _ (sym (append-nil _))

@@ -1,4 +1,5 @@
--- Lemmas about permutations of lists.
+-- Lemmas about permutations of lists: exchanging parts of a list yields a permutation, and mapping
+-- preserves permutations.
 use Rattle.std.proofs.Common.{◌≡◌, ℕ, zero, suc, ◌<◌, ◌≤◌, Bool, true, false, cond, List, [], ◌∷◌, ◌++◌, length, get_or, refl, sym, ap, subst, arith, Option, Some, None, append_assoc}
 use Rattle.std.specs.List.{filter, filter_map, flat_map, cons_option, swap, Contains}
 use Rattle.std.specs.Option.{option_to_list}
@@ -27,8 +28,8 @@ sorted_out us vs xs ys zs ws p q =
     (IsPermutation-trans _ _ _ (IsPermutation-append_right xs (ys ++ (zs ++ ws)) (zs ++ (ys ++ ws)) (exchanged ys zs ws))
     (same_is _ _ (sym (append_assoc xs zs (ys ++ ws))))))
 
--- If `y` is exchanged with the element `z` of a list, one concatenation changes only by a
--- permutation: `f y`, followed by the images of the list's elements under `f`.
+-- The concatenation of `f y` and the images under `f` of a list's elements changes only by a
+-- permutation if `y` and the list's element `z` change places.
 exchange_at : {X Y : Type 0} (f : X → List Y) (xs : List X) (j : ℕ) (y z : X) → j < length xs → z ≡ get_or xs j z → IsPermutation (f y ++ flat_map f xs) (f z ++ flat_map f (set xs j y))
 exchange_at f [] j y z l e = absurd (let h : j < 0 = l in omega arith)
 exchange_at f (x ∷ xs) zero y z l e =

@@ -1,4 +1,5 @@
--- Properties of the lists of a meter's entries that are read in chunks by sequence number.
+-- Properties of the lists of a meter's entries that are read in chunks by sequence number: the
+-- chunks together are all entries.
 use Rattle.std.proofs.Common.{◌≡◌, ℕ, Some, zero, suc, ◌+◌, ◌<◌, ◌≤◌, ◌==◌, ◌&&◌, nat_le, List, [], ◌∷◌, ◌++◌, reverse, take, drop, length, inl, inr, refl, sym, ap, subst, ◌∙◌, arith}
 use Rattle.std.specs.List.{filter}
 use Rattle.std.proofs.lemmas.Bool.{cases_Bool, cond-true, cond-false, le-leb, lt-leb}
@@ -89,8 +90,8 @@ from_place k (suc n) m (e ∷ es) is h =
     cond-false _ _ _ (lt-leb m (place_of e) (omega (arith, is, h.0)))
     ∙ from_place (k + 1) n m es (omega (arith, is)) h.1
 
--- The chunk from sequence number `n + 1` on consists of the entries after the first `n`, at most
--- `most` of them.
+-- The chunk of a meter's entries from sequence number `n + 1` on consists of the entries after the
+-- first `n`, at most `most` of them.
 
 pub piece_at : (facts : List Fact) (opening : Opening) (n most : ℕ)
     → first_from (n + 1) most (entries_at facts (Some opening)) ≡ take most (drop n (entries_at facts (Some opening)))
@@ -110,7 +111,8 @@ not_full zero xs lt = absurd (omega (arith, lt))
 not_full (suc m) [] lt = refl
 not_full (suc m) (x ∷ xs) lt = ap (λ more. x ∷ more) (not_full m xs (omega (arith, lt)))
 
--- A chunk that has fewer entries than the `m` entries that were requested is the last chunk.
+-- A chunk of a meter's entries that has fewer entries than the `m` entries that were requested is
+-- the last chunk.
 pub last_piece : {X : Type 0} (n m : ℕ) (xs : List X) → length (take m (drop n xs)) < m → take n xs ++ take m (drop n xs) ≡ xs
 last_piece n m xs lt =
     ap (λ rest. take n xs ++ rest) (not_full m (drop n xs) lt) ∙ take-append-drop n xs

@@ -1,4 +1,5 @@
--- Properties of the selection of Modbus reads from a device's plan by index range.
+-- Properties of the selection of Modbus reads by index range from a device's plan (the reads that
+-- cover its point list). Limiting the range to the plan's length does not change the selection.
 use Rattle.std.proofs.Common.{◌≡◌, ◌-◌, ℕ, suc, zero, min, List, [], ◌∷◌, map, take, drop, length, refl, sym, ap, ◌∙◌, inl, inr, arith}
 use Rattle.std.proofs.lemmas.Bool.{cases_lt}
 use Rattle.std.proofs.lemmas.List.{drop_all, take_min, take_rest, take-map}
@@ -16,7 +17,8 @@ drop_past xs n =
       | inr ge ↦ drop_all (min n (length xs)) xs (omega (arith, ge)) ∙ sym (drop_all n xs (omega (arith, ge)))
     ]
 
--- Limiting an index range to the length of the plan does not change which reads the range selects.
+-- Limiting an index range to the length of the plan (the Modbus reads that cover a point list) does
+-- not change which reads the range selects.
 pub asked_of : {X Y : Type 0} (f : X → Y) (all xs left : List X) (from most n m : ℕ) (ys : List Y) → all ≡ xs → n ≡ min from (length all)
     → left ≡ take (length all - n) (drop n all) → m ≡ min most (length left) → ys ≡ map f (take m left) → ys ≡ take most (drop from (map f xs))
 asked_of f all xs left from most n m ys same is rest few got =

@@ -1,4 +1,5 @@
--- Lemmas about events that start no poll, and about the properties of accepted events.
+-- Lemmas: connections, received bytes, timer events and the ends of connections start no poll.
+-- Three reasons to refuse an event (`IsPassed`) do not apply to accepted events.
 use Rattle.std.proofs.Common.{◌≡◌, ℕ, Bool, true, false, List, [], ◌∷◌, ◌++◌, take, refl, Option, Some, None, if◌then◌else◌}
 use Rattle.std.specs.List.{flat_map, find}
 use Rattle.poll_core.specs.Settling as session
@@ -71,8 +72,9 @@ pub connects_settle : (number at : ℕ) (given : Option (List ℕ)) (slots : Lis
 connects_settle number at given slots =
     of_none (settled_by number at (event.Connected given)) (λ slot. unsettled number at given slot.device slot.present) slots
 
--- True if three reasons to refuse an event do not apply: `Exists`, `Busy`, and that all poll
--- numbers are used. None of the three applies to an accepted event.
+-- True if three reasons to refuse an event do not apply: `Exists` (what it adds already exists),
+-- `Busy` (its device's connection does not allow it), and that all poll numbers are used. None of
+-- the three applies to an accepted event.
 pub record IsPassed (refuses : Refusal → Bool) : Type 0 where
   pub there : refuses refusal.Exists ≡ false
   pub busy : refuses refusal.Busy ≡ false

@@ -1,4 +1,5 @@
--- Lemmas about the records that a command adds, and about records that concern no poll.
+-- Lemmas: a property of each kind of record that a command adds holds for all records of the
+-- command. Records that concern no poll leave the recorded polls unchanged.
 use Rattle.std.proofs.Common.{◌≡◌, ℕ, true, List, [], ◌∷◌, ◌++◌, map, reverse, refl, ap, ◌∙◌, Option, Some, None, append_assoc}
 use Rattle.std.specs.List.{filter_map, cons_option}
 use Rattle.std.specs.Option.{option_map, option_and_then, option_to_list}
@@ -57,16 +58,17 @@ pub later_part_first : (added later facts : List Fact) → reverse (added ++ lat
 later_part_first added later facts =
     ap (λ (fs : List Fact). fs ++ facts) (reverse-append added later) ∙ append_assoc (reverse later) (reverse added) facts
 
--- If a filter of the records finds none of the added records, then its result is unchanged.
+-- If a filter of the records finds none of the added records, then adding these records leaves the
+-- filter's result unchanged.
 pub unseen : {X : Type 0} (look : Fact → Option X) (added facts : List Fact) → Each (λ f. look f ≡ None) added
     → filter_map look (reverse added ++ facts) ≡ filter_map look facts
 unseen look [] facts h = refl
 unseen look (f ∷ added) facts h =
     ap (filter_map look) (later_first f added facts) ∙ unseen look added (f ∷ facts) h.1 ∙ ap (λ o. cons_option o (filter_map look facts)) h.0
 
--- True if the property `P` holds for each record of a point list, an accounting register, a meter's
--- installation, an entry or a void (cancellation). A command adds no other records except devices
--- and polls.
+-- True if the property `P` holds for each record of a point list, an accounting register (a named
+-- energy counter), a meter's installation, an entry or a void (cancellation). A command adds no
+-- other records except devices and polls.
 pub record HoldsOfBooks (P : Fact → Type 0) : Type 0 where
   pub list : (put : DeviceList) → P (fact.List put)
   pub register : (register : Register) → P (fact.Register register)
@@ -120,8 +122,8 @@ added_each P h number at slots facts (command.StartPoll c) device send =
 added_each P h number at slots facts (command.StartRound c) device send =
     polls_each P number at (spans_by facts (command.StartRound c)) (slot_of slots c.device) (send refl)
 
--- If the property `P` holds for every stored response, then it holds for the response to the given
--- request.
+-- If the property `P` holds for every record that stores a response, then it holds for the record
+-- of the response to the given request.
 pub reply_each : (P : Fact → Type 0) → ((reply : Reply) → P (fact.Reply reply)) → (at : ℕ) (asked : Asked) → Each P (reply_by at asked)
 reply_each P h at asked =
     each_map P (λ caller. fact.Reply (record { caller = caller; number = asked.number; request = asked.request; kind = kind_of asked.command; at = at }))

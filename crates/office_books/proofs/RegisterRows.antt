@@ -1,5 +1,5 @@
--- Lemmas about the interval rows of an accounting register (an energy counter): the energy by
--- quarter hour of its meters, one meter after another.
+-- Lemmas: the interval rows of an accounting register (an energy counter) are in order of time.
+-- They are the energy by quarter hour of its meters, one meter after another.
 use Rattle.std.proofs.Common.{◌≡◌, ℕ, zero, suc, ◌+◌, ◌*◌, ◌^◌, ◌%◌, ◌<◌, ◌≤◌, List, [], ◌∷◌, ◌++◌, reverse, length, refl, sym, ap, subst, ◌∙◌, inl, inr, ◌⊎◌, arith}
 use Rattle.std.specs.Prelude.{All, slice_index_or}
 use Rattle.std.specs.List.{flat_map}
@@ -23,7 +23,7 @@ use Rattle.office_books.proofs.Journals.{IsInstalled, installed_fits, well}
 use Rattle.office_books.proofs.InTurn.{last_at, last_is_recorded, AllOver, InTurn, openings_at, in_turn}
 
 -- The theorems about the energy of single meters by quarter hour that the proofs about accounting
--- registers use.
+-- registers (named energy counters) use.
 pub record FromJournals : Type 0 where
   pub kept : laws.JournalsAreKept
   pub accounts : laws.IntervalRowsAreAccounts
@@ -86,7 +86,8 @@ never_at (row ∷ rows) zero (suc j) d h le lt = from_at row.start rows j d h.0 
 never_at (row ∷ rows) (suc i) zero d h le lt = absurd (omega (arith, le))
 never_at (row ∷ rows) (suc i) (suc j) d h le lt = never_at rows i j d h.1 (omega (arith, le)) (omega (arith, lt))
 
--- Lemmas about the interval rows (energy by quarter hour) of one meter.
+-- Lemmas that the interval rows (energy by quarter hour) of one meter are in order of time, and
+-- between the meter's first and last entry.
 
 from_ascending : (n : ℕ) (rows : List Share) → All (λ later. n < later) (starts_of rows) → From n rows
 from_ascending n [] h = tt
@@ -130,7 +131,8 @@ fine law facts o h there =
       energy = omega (arith, law.sums (installed o) lines own fits, (law.kept (installed o) lines own fits).account.within);
     }
 
--- Lemmas about the interval rows (energy by quarter hour) of several meters, one after another.
+-- Lemmas that the interval rows (energy by quarter hour) of several meters, one after another, are
+-- in order of time and have a bounded energy.
 
 -- The interval rows (energy by quarter hour) of a list of meters that begins with the latest. The
 -- rows of the earliest meter come first.
@@ -186,8 +188,8 @@ energy_with facts o os =
     let mwh : Share → ℕ = λ row. row.mwh in
     ap energy_of (one_more facts o os) ∙ sum_by-append mwh (rows_in_turn facts os) (rows_of_opening facts o)
 
--- If no meter of a register has an entry later than `at`, their total energy is at most 4 * 10^18
--- mWh times `at`. The time `at` is in seconds since 1970-01-01.
+-- If no meter of an accounting register has an entry later than `at`, the total energy of these
+-- meters is at most 4 * 10^18 mWh times `at`. The time `at` is in seconds since 1970-01-01.
 all_energy : FromJournals → (facts : List Fact) (at : ℕ) (os : List Opening) → AreLawful facts → InTurn facts os → LastBy facts at os
     → energy_of (rows_in_turn facts os) ≤ at * (4 * 10 ^ 18)
 all_energy law facts at [] h turn last = omega arith
@@ -206,8 +208,9 @@ all_energy law facts at (o ∷ os) h turn last =
           )
     ]
 
--- Lemmas about the interval rows (energy by quarter hour) of accounting registers (energy
--- counters), if the records follow the rules (`AreLawful`).
+-- Lemmas for records that follow the rules for adding records (`AreLawful`): the interval rows
+-- (energy by quarter hour) of an accounting register (an energy counter) are in order of time and
+-- within limits.
 
 moments_bounded : (facts : List Fact) → AreLawful facts → latest_in facts ≤ moment_limit
 moments_bounded [] h = omega arith

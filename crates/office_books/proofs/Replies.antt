@@ -1,5 +1,5 @@
--- Lemmas about the stored response to a request, which follows the records of the request's
--- command.
+-- Lemmas: the rules for adding records accept the stored response to a request after the records of
+-- the request's command.
 use Rattle.std.proofs.Common.{◌≡◌, ℕ, ◌≤◌, ◌==◌, nat_lt, false, ◌||◌, ◌&&◌, List, ◌++◌, reverse, refl, sym, ap, subst, ◌∙◌, Option, Some, None}
 use Rattle.std.specs.List.{find}
 use Rattle.std.specs.Option.{is_none, option_map, option_and_then, option_to_list}
@@ -55,8 +55,8 @@ by_caller facts known at asked (Some caller) h timely kept new good = (
   h,
 )
 
--- If the rules accept the records of a command, then they also accept the stored response to the
--- command's request.
+-- If the rules for adding records (`AreLawful`) accept the records of a command, then they also
+-- accept the stored response to the command's request.
 pub asked_fits : (number at : ℕ) (slots : List Slot) (facts : List Fact) (asked : Asked) → at ≤ moment_limit
     → kept_of facts (event.Asked asked) ≡ None → is_bad_request asked refusal.Limit ≡ false
     → AreLawful (reverse (added_by number at slots facts asked.command) ++ facts)

@@ -1,5 +1,5 @@
--- Lemmas about the polls that a round adds to the records. A round sends the reads of a device's
--- plan, one poll for each read.
+-- Lemmas: the rules for adding records accept the polls that a round adds. A round sends the reads
+-- of a device's plan, one poll for each read.
 use Rattle.std.proofs.Common.{◌≡◌, ℕ, suc, ◌+◌, ◌≤◌, min, Bool, true, false, cond, List, [], ◌∷◌, ◌++◌, map, reverse, length, refl, sym, ap, subst, ◌∙◌, inl, inr, Option, Some, None, append_assoc, arith}
 use Rattle.std.specs.Prelude.{IsSome}
 use Rattle.std.specs.Option.{is_some, is_none}
@@ -37,7 +37,7 @@ round_step at number device send later facts true h rest few = subst AreLawful (
 round_step at number device send later facts false h rest few = h
 
 -- If the polls of a polling round have consecutive numbers, then the records with these polls still
--- follow the rules (`AreLawful`).
+-- follow the rules for adding records (`AreLawful`).
 pub round_fits : (at number : ℕ) (device : Device) (before : List session.Event) (spans : List ReadSpan) (facts : List Fact) → AreLawful facts
     → at ≤ moment_limit → number ≡ next_poll facts → is_some (device_of facts device.name) ≡ true
     → length (polls_in facts) + length (sends_on number at device before spans) ≤ poll_limit

@@ -1,5 +1,5 @@
--- Lemmas about how one more event changes the polls of a session, which is a connection of a
--- device.
+-- Lemmas: one more event of a session (a connection of a device) adds the poll that it starts, and
+-- the outcomes of the polls that it ends.
 use Rattle.std.proofs.Common.{◌≡◌, ℕ, Bool, true, false, cond, not, ◌&&◌, List, [], ◌∷◌, ◌++◌, map, refl, ap, ◌∙◌, Option, Some, None}
 use Rattle.std.specs.List.{filter, find}
 use Rattle.std.specs.List.Sorted.{IsPermutation}
@@ -18,7 +18,8 @@ use Rattle.poll_core.specs.Laws.{outcomes_by_poll, outcomes_by_event, with_event
 use Rattle.office_books.proofs.Permutations.{same_is}
 
 -- The theorems about Modbus sessions that the proofs use: each poll with an outcome ended exactly
--- once, and one more event changes the polls as specified.
+-- once. One more event adds only the poll that it starts, and the outcomes of the polls that it
+-- ends.
 pub record SessionLaws : Type 0 where
   pub once : (timeout : ℕ) (events : List Event) → IsPermutation (outcomes_by_poll timeout events) (outcomes_by_event timeout events)
   pub outcomes : (timeout : ℕ) (events : List Event) (event : Event) →
@@ -30,7 +31,8 @@ pub record SessionLaws : Type 0 where
 abbrev pub numbers_of : List (Poll × Option Settlement) → List ℕ
 numbers_of rs = map (λ r. r.0.number) rs
 
--- The number of the poll that a Modbus session event starts.
+-- The number of the poll that a Modbus session event starts, as a list. The list is empty if the
+-- event starts no poll.
 abbrev pub number_by : Event → List ℕ
 number_by (Start moment poll unit span) = poll ∷ []
 number_by (Piece moment bytes) = []
@@ -79,7 +81,8 @@ none_left true x y h = refl
 none_left false None y h = h
 none_left false (Some o) y h = refl
 
--- If a poll is pending, then a close event ends the poll.
+-- If a poll of a Modbus session is pending (without an outcome), then a close event of the session
+-- ends the poll.
 close_settles : (es : List Event) (m : ℕ) (c : Closing) (p : Poll) → is_none (settled_by es (Close m c) p) ≡ false
 unfolding settled_by ending_at
 close_settles es m c p =
@@ -98,7 +101,7 @@ none_wait : (es : List Event) (m : ℕ) (c : Closing) (rs : List (Poll × Option
 none_wait es m c [] = refl
 none_wait es m c (r ∷ rs) = skipped (is_none (option_or r.1 (settled_by es (Close m c) r.0))) (with_event es (Close m c) r) (filter (λ r. is_none r.1) (map (with_event es (Close m c)) rs)) (closed_step es m c r.0 r.1) (none_wait es m c rs)
 
--- No poll is pending after a close event.
+-- No poll of a Modbus session is pending (without an outcome) after a close event.
 pub pending-close : (laws : SessionLaws) (t : ℕ) (es : List Event) (m : ℕ) (c : Closing) → pending t (es ++ Close m c ∷ []) ≡ []
 unfolding pending
 pending-close laws t es m c =

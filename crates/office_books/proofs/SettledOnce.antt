@@ -1,5 +1,5 @@
--- Lemmas that an event ends only polls that were pending on the session (connection) of a device,
--- each poll once.
+-- Lemmas that an event ends only polls that were pending (without an outcome) on the session
+-- (connection) of a device, each poll once.
 use Rattle.std.proofs.Common.{ℕ, ◌+◌, ◌≤◌, ◌≡◌, Bool, true, false, List, [], ◌∷◌, ◌++◌, map, ap, ◌∙◌, Option, Some, None, arith, if◌then◌else◌}
 use Rattle.std.specs.List.{flat_map, cons_option}
 use Rattle.std.specs.List.Sorted.{IsPermutation}
@@ -19,8 +19,8 @@ use Rattle.office_books.specs.PollEndings.{pending_on}
 use Rattle.office_books.proofs.Happenings.{command_settles}
 use Rattle.office_books.proofs.Times.{times, times-nil, times-cons, times-append, times-permutation}
 
--- Theorem: an event ends only polls that are pending on its Modbus session, each poll independently
--- of all other polls.
+-- Theorem: an event ends only polls that are pending (without an outcome) on its Modbus session,
+-- each poll independently of all other polls.
 abbrev pub SettlesPending : Type 0
 SettlesPending = (timeout : ℕ) (events : List Event) (event : Event)
     → IsPermutation (settled_among events event (pending timeout events)) (outcomes_at timeout events event)
@@ -46,7 +46,7 @@ among_at_most n before e (poll ∷ polls) =
     among_step n poll (settlement_by before e poll) (settled_among before e polls) polls (among_at_most n before e polls)
 
 -- Among the polls that a Modbus session event ends, a number occurs at most as often as among the
--- pending polls.
+-- pending polls (without an outcome).
 outcomes_at_most : SettlesPending → (n timeout : ℕ) (before : List Event) (e : Event)
     → times n (settled_numbers (outcomes_at timeout before e)) ≤ times n (numbers (pending timeout before))
 outcomes_at_most law n timeout before e =
@@ -59,7 +59,7 @@ outcomes_at_most law n timeout before e =
     )
 
 -- Among the polls that a Modbus session event ends on a device, a number occurs at most as often as
--- among the pending polls of the session.
+-- among the pending polls (without an outcome) of the session.
 single_at_most : SettlesPending → (n : ℕ) (b : Bool) (device : Device) (before : List Event) (h : Event)
     → times n (settled_numbers (settled_in device before (if b then h ∷ [] else []))) ≤ times n (numbers (pending device.timeout before))
 single_at_most law n false device before h = omega (arith, times-nil n)
@@ -85,7 +85,7 @@ on_slot law n number at e device ended None = omega (arith, times-nil n)
 on_slot law n number at e device ended (Some before) = on_session law n number at e device before
 
 -- Among the polls that an event of the program ends on all devices, a number occurs at most as
--- often as among all pending polls.
+-- often as among all pending polls (without an outcome).
 pub settled_at_most : SettlesPending → (n number at : ℕ) (e : OfficeEvent) (slots : List Slot)
     → times n (settled_numbers (flat_map (settled_by number at e) slots)) ≤ times n (flat_map pending_on slots)
 settled_at_most law n number at e [] = omega (arith, times-nil n)

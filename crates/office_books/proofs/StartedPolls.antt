@@ -1,4 +1,5 @@
--- Lemmas about the polls that a command starts, in the records and on the Modbus sessions.
+-- Lemmas: a command adds to the records exactly the polls that it starts on the Modbus sessions,
+-- consecutively numbered, and no outcome.
 use Rattle.std.proofs.Common.{◌≡◌, ℕ, suc, ◌+◌, Bool, true, false, cond, List, [], ◌∷◌, ◌++◌, map, reverse, length, refl, sym, ap, subst, ◌∙◌, arith, Option, Some, None, if◌then◌else◌}
 use Rattle.std.specs.List.{flat_map}
 use Rattle.std.specs.List.Sorted.{IsPermutation}
@@ -24,7 +25,7 @@ use Rattle.office_books.proofs.QuietFacts.{AreQuiet, IsQuiet, later_first, quiet
 abbrev pub numbers : List Fact → List ℕ
 numbers facts = map (λ poll. poll.number) (polls_in facts)
 
--- The records after one poll for each of the given sent reads is added.
+-- The records that result when a poll is added for each of the given Modbus reads that were sent.
 abbrev recorded_sends : (at : ℕ) → Device → List Send → List Fact → List Fact
 recorded_sends at device sends facts = reverse (map (poll_by at device) sends) ++ facts
 
@@ -65,8 +66,8 @@ sent_numbered number at device before (span ∷ spans) facts h is =
     (sent_numbered (number + 1) at device (before ++ start_by at device send ∷ []) spans (poll_by at device send ∷ facts)
     (is, h) (one_more number (length (polls_in facts)) is))
 
--- True if the added records contain exactly the polls of the given sent reads, consecutively
--- numbered, and no outcome of a poll.
+-- True if the added records contain exactly the polls of the given Modbus reads that were sent,
+-- consecutively numbered, and no outcome of a poll.
 pub record AddsPolls (facts added : List Fact) (sends : List Send) : Type 0 where
   pub numbered : AreNumbered (polls_in (reverse added ++ facts))
   pub started : IsPermutation (numbers (reverse added ++ facts)) (sent_numbers sends ++ numbers facts)
@@ -97,7 +98,7 @@ adds_round : (at : ℕ) (spans : List ReadSpan) (o : Option Slot) (facts : List 
 adds_round at spans None facts h = adds_quiet facts [] [] h tt refl
 adds_round at spans (Some slot) facts h = adds_present at slot.device slot.present spans facts h
 
--- If a command requests no reads, then the command sends nothing.
+-- If a command requests no Modbus reads, then no frames are sent to devices for the command.
 none_at : (number at : ℕ) (device : Device) (present : Option (List session.Event)) → sends_at number at device present [] ≡ []
 none_at number at device None = refl
 none_at number at device (Some before) = refl

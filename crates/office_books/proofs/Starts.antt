@@ -1,5 +1,5 @@
 -- Lemmas that the records stay lawful after the polls of an accepted command are added. Lawful
--- means that the rules accept each record after the earlier ones.
+-- means that the rules for adding records accept each record after the earlier ones.
 use Rattle.std.proofs.Common.{◌≡◌, ℕ, ◌+◌, ◌≤◌, true, false, List, ◌++◌, reverse, length, refl, sym, ap, subst, ◌∙◌, Option, Some, None}
 use Rattle.std.specs.Option.{is_some}
 use Rattle.mb_wire.specs.declared.span.ReadSpan.{ReadSpan}
@@ -30,7 +30,7 @@ present_fits facts at spans slot (Some before) is h timely known few =
     round_fits at (next_poll facts) slot.device before spans facts h timely refl known few
 
 -- After the polls that are sent on a device's Modbus session are recorded, the records still follow
--- the rules (`AreLawful`).
+-- the rules for adding records (`AreLawful`).
 pub polls_fit : (slots : List Slot) (facts : List Fact) (at : ℕ) (spans : List ReadSpan) (given : Option (List ℕ)) (o : Option Slot)
     → HaveSameDevices slots facts → AreLawful facts → at ≤ moment_limit → slot_of slots given ≡ o
     → length (polls_in facts) + length (sends_from (next_poll facts) at spans o) ≤ poll_limit

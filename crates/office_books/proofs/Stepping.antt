@@ -1,4 +1,6 @@
--- Lemmas about the state of a meter after a new record is added.
+-- Lemmas: an installation record gives its meter the first state, and an entry record advances the
+-- state of its meter. Rejected readings and records of other meters leave a meter's state
+-- unchanged.
 use Rattle.std.proofs.Common.{◌≡◌, ℕ, true, false, cond, List, [], ◌∷◌, sym, ap, subst, ◌∙◌, inl, inr, Some, None}
 use Rattle.std.specs.List.{cons_option}
 use Rattle.std.proofs.lemmas.Bool.{cases_Bool, cond-true, cond-false}

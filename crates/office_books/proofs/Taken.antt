@@ -1,4 +1,5 @@
--- Lemmas about the properties of an accepted command.
+-- Lemmas on an accepted command. Its timestamp is not before the latest accepted event, and not
+-- after the greatest supported timestamp. No reason to refuse the command applies.
 use Rattle.std.proofs.Common.{◌≡◌, ℕ, ◌≤◌, nat_lt, Bool, true, false, ◌||◌, List, [], ◌∷◌, refl, None}
 use Rattle.std.specs.List.{find}
 use Rattle.std.proofs.lemmas.Bool.{or_parts, ltb-false}
@@ -62,8 +63,8 @@ is_taken past at c h =
       few = limit.1.1.1.1.1.1.1.1.1.1.0;
     }
 
--- Suppose that every reason to refuse that applies by the test `q` also applies by the test `p`. If
--- no reason applies by `p`, then no reason applies by `q`.
+-- Suppose that every refusal reason that satisfies the predicate `q` also satisfies the predicate
+-- `p`. If no reason in a list satisfies `p`, then no reason in the list satisfies `q`.
 less_refused : (p q : Refusal → Bool) → ((why : Refusal) → p why ≡ false → q why ≡ false) → (xs : List Refusal) → find p xs ≡ None → find q xs ≡ None
 less_refused p q less [] h = refl
 less_refused p q less (why ∷ xs) h =
@@ -82,7 +83,8 @@ command_of_asked past at asked h =
     (λ why refused. both_false (is_mistimed (latest_of past) at why) (asks_wrongly (slots_of past) (facts_of past) at asked.command why) (is_bad_request asked why) refused)
     reasons h
 
--- If a request is accepted, then its idempotency key is valid.
+-- If a request is accepted, then its idempotency key has a valid caller's name and a number within
+-- the limit.
 pub good_request : (past : History) (at : ℕ) (asked : Asked) → refusal_of past at (event.Asked asked) ≡ None → is_bad_request asked refusal.Limit ≡ false
 good_request past at asked h =
     let all = not_refused past at (event.Asked asked) h in

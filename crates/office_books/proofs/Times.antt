@@ -1,4 +1,5 @@
--- Lemmas about how often a number occurs in a list.
+-- Lemmas about how often a number occurs in a list, such as a concatenated, permuted or filtered
+-- list.
 use Rattle.std.proofs.Common.{◌≡◌, ℕ, ◌+◌, ◌<◌, ◌≤◌, ◌==◌, Bool, true, false, cond, not, List, [], ◌∷◌, ◌++◌, map, refl, sym, ap, ◌∙◌, inl, inr, Some, arith}
 use Rattle.std.specs.List.{filter, find, sum_by}
 use Rattle.std.specs.List.Sorted.{IsPermutation}
@@ -60,14 +61,15 @@ parts_step : {X : Type 0} (f : X → ℕ) (n : ℕ) (b : Bool) (x : X) (us vs xs
 parts_step f n true x us vs xs h = omega (arith, times-cons n (f x) (map f us), times-cons n (f x) (map f xs))
 parts_step f n false x us vs xs h = omega (arith, times-cons n (f x) (map f vs), times-cons n (f x) (map f xs))
 
--- The occurrences among elements that pass a test and the occurrences among elements that fail the
--- test add up to all occurrences.
+-- In a list filtered by a predicate, the occurrences of a number among the elements that satisfy
+-- the predicate and among the others add up to all occurrences.
 pub times_parted : {X : Type 0} (f : X → ℕ) (p : X → Bool) (n : ℕ) (xs : List X)
     → times n (map f (filter p xs)) + times n (map f (filter (λ x. not (p x)) xs)) ≡ times n (map f xs)
 times_parted f p n [] = omega (arith, times-nil n)
 times_parted f p n (x ∷ xs) = parts_step f n (p x) x (filter p xs) (filter (λ y. not (p y)) xs) xs (times_parted f p n xs)
 
--- If a number occurs among the elements that pass a test, then the number passes the test.
+-- If a number occurs among the elements that satisfy a predicate on numbers, then this number
+-- satisfies the predicate.
 passing_step : {X : Type 0} (f : X → ℕ) (g : ℕ → Bool) (n : ℕ) (b : Bool) (x : X) (xs : List X) → g (f x) ≡ b
     → (0 < times n (map f xs) → g n ≡ true) → 0 < times n (map f (cond b (x ∷ xs) xs)) → g n ≡ true
 passing_step f g n true x xs e later h =

@@ -1,12 +1,14 @@
--- The proof that the polls and the energy of meters in the records are correct after any accepted
--- events (`AreTrue`).
+-- The proof of `AreTrue` for the records after any accepted events: each poll ended once or is
+-- pending (without an outcome), and the energy of each meter comes from its valid (not voided)
+-- entries.
 use Rattle.office_books.specs.History.{History, facts_of}
 use Rattle.office_books.specs.Refusals.{AreAccepted}
 use Rattle.office_books.specs.Endings.{EachEndsOnce}
 use Rattle.office_books.specs.Laws.{MetersAreKept, TruthIsRecorded, VoidsLeaveNoTrace}
 use Rattle.office_books.specs.Lawfulness.{FactsAreLawful, NamesAreDistinct, BooksAreTrue}
 
--- The theorems from which the correctness of the records (`AreTrue`) follows.
+-- The theorems from which `AreTrue` follows: after any accepted events, the polls and the energy of
+-- meters in the records are correct.
 pub record Laws : Type 0 where
   pub polls : (history : History) → AreAccepted history → EachEndsOnce history
   pub lawful : FactsAreLawful

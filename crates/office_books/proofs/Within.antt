@@ -77,8 +77,8 @@ module _ (kept : JournalsAreKept) (places : PlacesWereKept) (facts : List Fact) 
   pub within_whole : (meter : List ℕ) (place : ℕ) → IsWithinWhole facts meter place
   within_whole meter place = λ whole p is at. by_opening meter place (opening_of facts meter) whole p refl is at
 
--- If a meter is installed, a lookup of an entry has the guarantees `ReportsNear`. The result has
--- the meter's present total energy instead of the energy before the entry.
+-- If a meter is installed, a lookup of one of its entries has the guarantees `ReportsNear`. The
+-- result has the meter's present total energy, which is at least the energy before the entry.
 pub reports_near : (facts : List Fact) (meter : List ℕ) (place : ℕ) (whole : Installation) (found : Option EntryContext) → Some whole ≡ meter_of facts meter → found ≡ entry_at facts meter place
     → IsWithinWhole facts meter place → ReportsNear facts meter place (option_map (with_energy whole.total) found)
 reports_near facts meter place whole found is at within = record {

@@ -1,4 +1,5 @@
--- The two possible states of a started poll: the poll ended exactly once, or it is pending.
+-- The two possible states of a started poll: the poll ended exactly once, or it is pending (without
+-- an outcome).
 use Rattle.std.specs.Prelude.{◌≡◌, ◌⊎◌, ℕ, [], ◌∷◌, map, Some, None, All, Contains}
 use Rattle.std.specs.List.{flat_map}
 use Rattle.poll_core.specs.declared.outcome.Outcome.{Outcome}
@@ -20,11 +21,11 @@ pub record IsPending (history : History) (number : ℕ) : Type 0 where
   pub given : outcome_in (slots_of history) number ≡ None
   pub waits : Contains (flat_map pending_on (slots_of history)) number
 
--- True if a poll ended exactly once, or is pending.
+-- True if a poll ended exactly once, or is pending (without an outcome).
 abbrev pub EndsOnce : History → Poll → Type 0
 EndsOnce history poll =
     ((outcome : Outcome) × HasEnded history poll.number outcome) ⊎ IsPending history poll.number
 
--- True if each started poll ended exactly once, or is pending.
+-- True if each started poll ended exactly once, or is pending (without an outcome).
 abbrev pub EachEndsOnce : History → Type 0
 EachEndsOnce history = All (EndsOnce history) (polls_in (facts_of history))

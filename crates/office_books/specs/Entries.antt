@@ -42,7 +42,8 @@ entries_at facts (Some opening) = reverse (listed_rows opening (rows_of facts op
 abbrev pub all_entries : List Fact → (meter : List ℕ) → List MeterEntry
 all_entries facts meter = entries_at facts (opening_of facts meter)
 
--- From a list of entries, at most `most` entries with a sequence number of at least `from`.
+-- The first `most` entries of a list that have a sequence number of at least `from`. If fewer
+-- entries have such a number, all of these.
 abbrev pub first_from : (from most : ℕ) → List MeterEntry → List MeterEntry
 first_from from most entries = take most (filter (λ e. nat_le from (place_of e)) entries)
 

@@ -43,8 +43,8 @@ abbrev pub is_named : Option (List ℕ) → List ℕ → Bool
 is_named None name = false
 is_named (Some given) name = same given name
 
--- The content of a record if the record has the kind that the function's name states, otherwise
--- `None`.
+-- The content of a record if the record has the kind that the function's name states (such as a
+-- device), otherwise `None`.
 abbrev pub as_device : Fact → Option Device
 as_device (fact.Device device) = Some device
 as_device _ = None
@@ -85,8 +85,8 @@ abbrev pub as_ended : Fact → Option EndedPoll
 as_ended (fact.Outcome ended) = Some ended
 as_ended _ = None
 
--- The contents of all records of the kind that the function's name states, as in a database table.
--- The latest record comes first.
+-- The contents of all records of the kind that the function's name states (such as devices), as in
+-- a database table. The latest record comes first.
 abbrev pub devices_in : List Fact → List Device
 devices_in facts = filter_map as_device facts
 
@@ -117,8 +117,8 @@ polls_in facts = filter_map as_poll facts
 abbrev pub ended_in : List Fact → List EndedPoll
 ended_in facts = filter_map as_ended facts
 
--- Lookups by name: the device, the accounting register, or the meter's opening (installation
--- record) with the given name. `None` if no record has the name.
+-- Lookups by name: the device, the accounting register (a named energy counter), or the meter's
+-- opening (installation record) with the given name. `None` if no record has the name.
 abbrev pub device_of : List Fact → List ℕ → Option Device
 device_of facts name = find (λ device. same device.name name) (devices_in facts)
 
@@ -135,17 +135,17 @@ registers_of facts device =
     reverse (filter (λ register. same register.device device) (registers_in facts))
 
 -- The opening (installation record) of the latest meter that was installed at the accounting
--- register with the given name. `None` if no meter was installed there.
+-- register (a named energy counter) with the given name. `None` if no meter was installed there.
 abbrev pub installed_at : List Fact → List ℕ → Option Opening
 installed_at facts register = find (λ opening. same opening.register register) (openings_in facts)
 
--- The point list, or `None` if the list has no points.
+-- A device's point list `list` with the points `points`, or `None` if it has no points.
 abbrev pub if_some : List ListedPoint → Planned → Option Planned
 if_some [] list = None
 if_some (point ∷ points) list = Some list
 
--- The latest point list of the device with the given name, or `None`. A list without points counts
--- as no list.
+-- The latest point list (the Modbus registers to read) of the device with the given name, or
+-- `None`. A list without points counts as no list.
 abbrev pub list_of : List Fact → List ℕ → Option Planned
 list_of facts device =
     option_and_then (λ put. if_some put.list.points put.list)
@@ -173,8 +173,8 @@ abbrev pub pending_in : List Fact → List Poll
 pending_in facts =
     filter (λ poll. length (ends_of facts poll.number) == 0) (reverse (polls_in facts))
 
--- The timestamp of a record, or 0 for a device, a point list or an accounting register, which have
--- no timestamp.
+-- The timestamp of a record, or 0 for a device, a point list or an accounting register (a named
+-- energy counter), which have no timestamp.
 abbrev pub moment_in : Fact → ℕ
 moment_in (fact.Device device) = 0
 moment_in (fact.List list) = 0

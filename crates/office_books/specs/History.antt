@@ -103,7 +103,7 @@ settled_on number at e device None = []
 settled_on number at e device (Some before) =
     settled_in device before (reaches number at [] e device before)
 
--- The polls that an event of the program ends for the device of a slot (a device with its
+-- The polls that an event of the program ends for the device of a slot (a device with its Modbus
 -- sessions), each with its result.
 abbrev pub settled_by : (number at : ℕ) → Event → Slot → List (ℕ × session.Settlement)
 settled_by number at e slot = settled_on number at e slot.device slot.present
@@ -120,8 +120,8 @@ with_settled number at e (slot ∷ slots) facts =
 abbrev pub function_by : ℕ → ReadFunction
 function_by function = if function == 3 then HoldingRegisters else InputRegisters
 
--- The source of an accounting register's scale factor, as the command states it. The source is a
--- fixed scale factor or a Modbus address.
+-- The source of an accounting register's scale factor, as the command
+-- states it. The source is a fixed scale factor or a Modbus address.
 abbrev pub scale_by : GivenScale → ScaleSource
 scale_by (given.Fixed sf) = source.Fixed sf
 scale_by (given.Register address) = source.Register address
@@ -233,7 +233,8 @@ made_on at c row = option_map
     (made_by at row.last c)
 
 -- The record of the entry that a command makes for the open meter of the command's accounting
--- register. The list is empty if the command makes no entry or no meter is open.
+-- register (a named energy counter). The list is empty if the command makes no entry or no meter is
+-- open.
 abbrev pub entries_by : (at : ℕ) → List Fact → Command → List Fact
 entries_by at facts c =
     option_to_list
@@ -247,12 +248,12 @@ openings_by at c =
     (option_and_then (λ register. option_map (λ meter. opening_by at c register meter) c.meter)
     c.register)
 
--- The reads in the plan of a point list, in order.
+-- The Modbus reads that cover the points of a point list, in order.
 abbrev pub reads_of : Planned → List ReadSpan
 reads_of list = map (λ read. read.span) list.reads
 
--- The reads of a polling round: those of the device's plan from the index `from` to the end.
--- Without a point list, there are no reads.
+-- The reads of a polling round: those of the device's plan (the Modbus reads that cover its point
+-- list) from the index `from` to the end. Without a point list, there are no reads.
 abbrev pub round_spans : (from : ℕ) → Option Planned → List ReadSpan
 round_spans from None = []
 round_spans from (Some list) = drop from (reads_of list)

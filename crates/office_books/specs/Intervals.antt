@@ -12,7 +12,7 @@ use Rattle.office_books.specs.Meters.{installed, journal_of}
 
 -- The interval rows (energy by quarter hour) of the meter with a given opening (installation
 -- record), in order of time. A quarter hour has a row if it overlaps the time between two
--- consecutive valid entries.
+-- consecutive valid (not voided) entries.
 abbrev pub rows_of_opening : List Fact → Opening → List Share
 rows_of_opening facts opening =
     books.interval_rows (installed opening) (journal_of facts opening.meter)
@@ -35,8 +35,8 @@ installations_at facts register =
     reverse (filter (λ opening. same opening.register register) (openings_in facts))
 
 -- The interval rows (energy by quarter hour) of all meters of an accounting register (an energy
--- counter), one meter after another. If the records follow the rules (`AreLawful`), the start times
--- of the rows never decrease.
+-- counter), one meter after another. If the records follow the rules for adding records
+-- (`AreLawful`), the start times of the rows never decrease.
 abbrev pub rows_of_register : List Fact → List ℕ → List Share
 rows_of_register facts register = flat_map (rows_of_opening facts) (installations_at facts register)
 

@@ -30,7 +30,7 @@ pub record DeviceFits (facts : List Fact) (device : Device) : Type 0 where
   pub window : (1 ≤ device.window) × (device.window ≤ MAX_WINDOW)
 
 -- True if a point list may be stored: its device exists, and the Modbus reads stored with the list
--- are those of the plan for its points.
+-- are those of its plan (the reads that cover its points).
 pub record ListFits (facts : List Fact) (put : DeviceList) : Type 0 where
   pub device : is_some (device_of facts put.device) ≡ true
   pub planned : IsPlanned put.list
@@ -62,8 +62,8 @@ pub record LineFits (facts : List Fact) (meter : List ℕ) (line : journal.Line)
   pub there : opening_of facts meter ≡ Some opening
   pub fits : journals.Fits (installed opening) (journal_of facts opening.meter) line
 
--- True if a rejected reading may be recorded: its poll was started, and the rules accept the
--- reading as the next line of its meter's journal (history).
+-- True if a rejected reading may be recorded: its poll was started, and the rules for meter entries
+-- accept it as the next line of its meter's journal (history).
 pub record HoldFits (facts : List Fact) (held : HeldReading) : Type 0 where
   pub started : is_some (poll_of facts held.poll) ≡ true
   pub line : LineFits facts held.meter (held_line held)
@@ -100,8 +100,8 @@ Fits facts (fact.Poll poll) = PollFits facts poll
 Fits facts (fact.Outcome ended) = EndFits facts ended
 Fits facts (fact.Reply reply) = ReplyFits facts reply
 
--- True if records are lawful: the rules accept each record after the earlier records, and no
--- timestamp exceeds the greatest timestamp.
+-- True if records are lawful: the rules for adding records accept each record after the earlier
+-- records, and no timestamp exceeds the latest supported timestamp (`moment_limit`).
 abbrev pub AreLawful : List Fact → Type 0
 AreLawful [] = Unit {0}
 AreLawful (f ∷ facts) = (Fits facts f × (moment_in f ≤ moment_limit)) × AreLawful facts

@@ -1,4 +1,5 @@
--- Theorems about the records after any accepted events.
+-- Theorems about the records after any accepted events: the rules for adding records accept each of
+-- them after the earlier ones, names are distinct, and the polls and energies are correct.
 use Rattle.std.specs.Prelude.{◌≡◌, ◌≢◌, false, List, [], ◌∷◌, Option, Some, All}
 use Rattle.std.specs.List.{AllPairs}
 use Rattle.energy_core.specs.TrueRun.{Item}
@@ -39,15 +40,15 @@ pub record IsPast (history : History) : Type 0 where
   pub accepted : AreAccepted history
   pub planned : ListsArePlanned history
 
--- Theorem: the records after any accepted events are lawful. This means that the rules accept each
--- record after the earlier ones.
+-- Theorem: the records after any accepted events are lawful. This means that the rules for adding
+-- records accept each record after the earlier ones.
 abbrev pub FactsAreLawful : Type 0
 FactsAreLawful = (history : History) → AreAccepted history → ListsArePlanned history
     → AreLawful (facts_of history)
 
 -- True if no two devices, accounting registers or meters have the same name, so a search by name
--- finds each of them. Also, any open meter of an accounting register is the latest meter that was
--- installed there.
+-- finds each of them. Also, any open meter of an accounting register (a named energy counter) is
+-- the latest meter that was installed there.
 pub record AreDistinct (facts : List Fact) : Type 0 where
   pub devices : AllPairs (λ (a b : Device). a.name ≢ b.name) (devices_in facts)
   pub registers : AllPairs (λ (a b : Register). a.name ≢ b.name) (registers_in facts)
@@ -62,15 +63,15 @@ pub record AreDistinct (facts : List Fact) : Type 0 where
   pub latest : (opening : Opening) → IsRecorded facts opening → is_ended facts opening ≡ false
       → installed_at facts opening.register ≡ Some opening
 
--- Theorem: if the records follow the rules (`AreLawful`), then the names of devices, accounting
--- registers and meters are distinct.
+-- Theorem: if the records follow the rules for adding records (`AreLawful`), then the names of
+-- devices, accounting registers (named energy counters) and meters are distinct.
 abbrev pub NamesAreDistinct : Type 0
 NamesAreDistinct = (facts : List Fact) → AreLawful facts → AreDistinct facts
 
 -- States that the polls and meters after a list of accepted events are correct. Each poll ended
--- once or is pending. The energy of each meter, in total and by quarter hour, comes from its valid
--- entries, and voided (cancelled) entries leave no trace. If the readings come from an honest meter
--- that is polled often enough, this energy equals the true energy.
+-- once or is pending (without an outcome). The energy of each meter, in total and by quarter hour,
+-- comes from its valid entries, and voided (cancelled) entries leave no trace. If the readings come
+-- from an honest meter that is polled often enough, this energy equals the true energy.
 pub record AreTrue (history : History) : Type 0 where
   pub polls : EachEndsOnce history
   pub lawful : AreLawful (facts_of history)
@@ -84,7 +85,7 @@ pub record AreTrue (history : History) : Type 0 where
       → ShowsTrueRun (installed opening) (journal_of (facts_of history) opening.meter) first items
       → IsKeptTruly (installed opening) (journal_of (facts_of history) opening.meter) first items
 
--- Theorem: after any accepted events, the polls and the energy of meters in the records are correct
--- (`AreTrue`).
+-- Theorem: after any accepted events, each poll in the records ended once or is pending, and each
+-- meter's recorded energy comes from its valid entries (`AreTrue`).
 abbrev pub BooksAreTrue : Type 0
 BooksAreTrue = (history : History) → AreAccepted history → ListsArePlanned history → AreTrue history

@@ -1,5 +1,5 @@
--- Theorems about the meters in lawful records, which are records that the rules accept one after
--- another.
+-- Theorems: if the rules for adding records accept each record after the earlier ones, each meter's
+-- journal (history) obeys the rules for meter entries, and the meter's energies balance.
 use Rattle.std.specs.Prelude.{◌≤◌, ℕ, ◌≡◌, ◌+◌, List}
 use Rattle.std.specs.List.{All, Contains}
 use Rattle.energy_core.specs.Value.{value_of}
@@ -21,19 +21,19 @@ use Rattle.office_books.specs.Lawful.{AreLawful}
 abbrev pub IsRecorded : List Fact → Opening → Type 0
 IsRecorded facts opening = Contains (openings_in facts) opening
 
--- Theorem: if the records follow the rules (`AreLawful`), then the rules for each meter's journal
--- (history) accept each line after the earlier lines.
+-- Theorem: if the records follow the rules for adding records (`AreLawful`), then the rules for
+-- each meter's journal (history) accept each line after the earlier lines.
 abbrev pub JournalsFit : Type 0
 JournalsFit = (facts : List Fact) (opening : Opening) → AreLawful facts → IsRecorded facts opening
     → AreFitting (installed opening) (journal_of facts opening.meter)
 
--- True if the energy of a meter balances, which means that two sums are equal. The first sum adds
--- the total energy, the value at the installation, and the values to which the counter was set. The
--- second sum adds the last value, a full range for each rollover, and the values before the counter
--- was set.
+-- True if the energy of a meter balances, which means that two sums in mWh are equal. The first sum
+-- adds the total energy, the counter value at the installation, and the values to which the counter
+-- was set. The second sum adds the last value, a full range for each rollover, and the values
+-- before the counter was set.
 --
--- Also, the energies of the steps between valid entries add up to the total energy. The energies by
--- quarter hour add up to the same total.
+-- The energies of the steps between a meter's valid (not voided) entries add up to its total
+-- energy. The energies by quarter hour add up to the same total.
 pub record IsKept (facts : List Fact) (opening : Opening) : Type 0 where
   pub energy : (installation_of facts opening).total + value_of (opened opening)
       + set_anew (entries_of facts opening)
@@ -43,8 +43,9 @@ pub record IsKept (facts : List Fact) (opening : Opening) : Type 0 where
   pub rows : IsAccount (steps_in facts opening) (rows_of_opening facts opening)
   pub sum : energy_of (rows_of_opening facts opening) ≡ (installation_of facts opening).total
 
--- Theorem: if the records follow the rules (`AreLawful`), then the energy of each meter balances,
--- as `IsKept` describes.
+-- Theorem: suppose that the records follow the rules for adding records (`AreLawful`). Then each
+-- meter's energy is its last count less its first count, corrected for rollovers, resets and
+-- rescales (`IsKept`). Its energies by quarter hour add up to its total energy.
 abbrev pub MetersAreKept : Type 0
 MetersAreKept = (facts : List Fact) (opening : Opening) → AreLawful facts → IsRecorded facts opening
     → IsKept facts opening
@@ -64,8 +65,8 @@ pub record IsUntraced (facts : List Fact) (opening : Opening) : Type 0 where
   pub rows : journals.HasItsRows (installed opening) (journal_of facts opening.meter)
   pub alone : journals.LeavesNoTrace (installed opening) (journal_of facts opening.meter)
 
--- Theorem: if the records follow the rules (`AreLawful`), then voided (cancelled) entries leave no
--- trace in the energy of a meter.
+-- Theorem: if the records follow the rules for adding records (`AreLawful`), then a meter has the
+-- same energy without its voided (cancelled) entries. These entries thus leave no trace.
 abbrev pub VoidsLeaveNoTrace : Type 0
 VoidsLeaveNoTrace = (facts : List Fact) (opening : Opening) → AreLawful facts
     → IsRecorded facts opening → IsUntraced facts opening
@@ -89,7 +90,7 @@ pub record IsBounded (f : Fact) : Type 0 where
   pub poll : poll_in f ≤ poll_limit
   pub request : request_in f ≤ request_limit
 
--- Theorem: if the records follow the rules (`AreLawful`), then their timestamps, poll numbers and
--- numbers of idempotency keys are within their limits.
+-- Theorem: if the records follow the rules for adding records (`AreLawful`), then their timestamps,
+-- poll numbers and numbers of idempotency keys are within their limits.
 abbrev pub FactsAreBounded : Type 0
 FactsAreBounded = (facts : List Fact) → AreLawful facts → All IsBounded facts

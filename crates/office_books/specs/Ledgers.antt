@@ -10,8 +10,9 @@ use Rattle.office_books.specs.Faults.{FailuresAfterCalls, faults_after}
 -- The model of a store at one point in time: its records, and the lists of records that a crash may
 -- leave instead.
 --
--- `is_clean` means that every wrong result of the storage was detected. The model also has the
--- failure counter, the time zone of civil days, and whether the store is open.
+-- In the model of a store, `is_clean` means that every wrong result of the storage was detected.
+-- The model also has the failure counter, the time zone of civil days, and whether the store is
+-- open.
 pub record Ledger : Type 1 where
   pub holds : List Fact → Type 0
   pub may_leave : List (List Fact) → Type 0
@@ -57,7 +58,7 @@ pub record Consults {T : Type 0} (old new : Ledger) (result : Result T BooksFaul
   pub keeps : KeepsFacts old new
 
 -- States that, if the store is clean (every wrong result was detected) after a lookup, a successful
--- result agrees with the store's records. States nothing otherwise.
+-- result is the one that the store's records require. States nothing otherwise.
 abbrev pub Finds : {T : Type 0} → (old new : Ledger) → Result T BooksFault
     → (List Fact → T → Type 0) → Type 0
 Finds old new result says = (known : List Fact) → old.holds known → new.is_clean
@@ -90,7 +91,8 @@ pub record Books (old new : Ledger) (facts : List Fact) (result : Result (Unit {
 -- store has `later`, and a crash leaves `later`. If `later` equals `known`, a crash may leave the
 -- same lists as before the calls.
 --
--- On an error the store has `known`, and a crash may also leave `later`.
+-- If a change of the store's records from `known` to `later` fails, the store still has `known`,
+-- and a crash may also leave `later`.
 pub record Moves {T : Type 0} (old new : Ledger) (known later : List Fact)
     (result : Result T BooksFault) : Type 0 where
   pub holds : old.holds known → new.is_clean → OnOk result (new.holds later)

@@ -62,13 +62,13 @@ entries_of facts opening = journal.entries_of (opened opening) (journal_of facts
 abbrev pub is_ended : List Fact → Opening → Bool
 is_ended facts opening = journal.is_ended (journal_of facts opening.meter)
 
--- The steps from each valid entry of a meter to the next valid entry, each with its energy. The
--- latest step comes first.
+-- The steps from each valid (not voided) entry of a meter to the next valid entry, each with its
+-- energy. The latest step comes first.
 abbrev pub steps_in : List Fact → Opening → List Step
 steps_in facts opening = books.steps_in (installed opening) (journal_of facts opening.meter)
 
--- The state of a meter with a given opening (installation record) after a list of valid entries was
--- added.
+-- The state of a meter with a given opening (installation record) after a list of valid (not
+-- voided) entries was added.
 abbrev pub standing : Opening → List Entry → (ended : Bool) → Installation
 standing opening es ended = record {
   opening = opening;
@@ -101,7 +101,7 @@ abbrev pub open_at : List Fact → List ℕ → Option Installation
 open_at facts register = option_and_then if_open (installation_at facts register)
 
 -- An entry in its context: the meter's state before the entry, the entry's row, and the next valid
--- entry.
+-- (not voided) entry.
 abbrev pub place_in : List Fact → Opening → journal.Around → EntryContext
 place_in facts opening around = record {
   before = standing opening (journal.entries_in around.before) (is_ended facts opening);

@@ -109,8 +109,8 @@ abbrev pub frame_of : Device → Send → List ℕ
 frame_of device send =
     spelling send.id device.unit (request_bytes (request_of (span_view send.span)))
 
--- The bytes of the Modbus frames of all reads that a device's session can start. The list is empty
--- if the device does not exist.
+-- The bytes of the Modbus frames of all reads that a device's Modbus session can start. The list is
+-- empty if the device does not exist.
 abbrev pub frames_from : (number at : ℕ) → List ReadSpan → Option Slot → List ℕ
 frames_from number at spans None = []
 frames_from number at spans (Some slot) =

@@ -28,8 +28,8 @@ polls_on device restarted events =
     map (λ result. (result.0.number, end_by restarted result.1))
     (session.results device.timeout [] events)
 
--- The polls of a device's present session, each with its outcome or `None`. Without a session, the
--- list is empty.
+-- The polls of a device's present Modbus session, each with its outcome or `None`. Without a
+-- session, the list is empty.
 abbrev pub polls_on_present : Device → Option (List session.Event) → List (ℕ × Option Outcome)
 polls_on_present device None = []
 polls_on_present device (Some events) = polls_on device false events
@@ -55,13 +55,14 @@ abbrev pub outcome_in : List Slot → ℕ → Option Outcome
 outcome_in slots number =
     option_and_then (λ poll. poll.1) (find (λ poll. poll.0 == number) (polls_of_slots slots))
 
--- The numbers of the pending polls in a device's present Modbus session. Without a session, the
--- list is empty.
+-- The numbers of the pending polls (without an outcome) in a device's present Modbus session.
+-- Without a session, the list is empty.
 abbrev pub waiting : Device → Option (List session.Event) → List ℕ
 waiting device None = []
 waiting device (Some events) = map (λ poll. poll.number) (session.pending device.timeout events)
 
--- The numbers of the polls that are pending in the present Modbus session of a device.
+-- The numbers of the polls that are pending (without an outcome) in the present Modbus session of a
+-- device.
 abbrev pub pending_on : Slot → List ℕ
 pending_on slot = waiting slot.device slot.present
 

@@ -5,8 +5,8 @@ use Rattle.office_events.specs.declared.facts.Fact.TheVariants as fact
 use Rattle.office_books.specs.Facts.{poll_of}
 use Rattle.office_books.specs.Lawful.{PollFits, EndFits}
 
--- True if poll numbers are consecutive, the devices of polls exist, only pending polls end, and
--- rejected readings belong to started polls.
+-- True if poll numbers are consecutive, the devices of polls exist, only pending polls (without an
+-- outcome) end, and rejected readings belong to started polls.
 abbrev pub PollsFit : List Fact → Type 0
 PollsFit [] = Unit {0}
 PollsFit (fact.Poll poll ∷ facts) = PollFits facts poll × PollsFit facts

@@ -1,5 +1,5 @@
--- The ranges of counter values, scale factors and energies of meters in lawful records, which are
--- records that the rules accept one after another.
+-- The ranges of counter values, scale factors and energies of meters in lawful records, which the
+-- rules for adding records accept one after another.
 use Rattle.std.specs.Prelude.{◌≡◌, ℕ, ◌≤◌, ◌<◌, List, Some}
 use Rattle.energy_core.specs.declared.limits.TheConstants.{MAX_CEILING, MAX_RANGE, MAX_TOTAL, MIN_RANGE}
 use Rattle.energy_core.specs.Account.{IsScale}
@@ -11,8 +11,8 @@ use Rattle.office_books.specs.Lawful.{AreLawful}
 use Rattle.office_books.specs.Meters.{installation_of, meter_of, installation_at, open_at, entry_at}
 use Rattle.office_books.specs.Laws.{IsRecorded}
 
--- True if the counter values, the scale factor and the limits of a meter's state are in range. The
--- next entry can then be judged without overflow.
+-- True if the range, ceiling (maximum power), count, scale factor and total energy of a meter's
+-- state are in range. The next entry can then be judged without overflow.
 pub record IsSound (row : Installation) : Type 0 where
   pub range : (MIN_RANGE ≤ row.opening.range) × (row.opening.range ≤ MAX_RANGE)
   pub ceiling : (1 ≤ row.opening.ceiling) × (row.opening.ceiling ≤ MAX_CEILING)
@@ -35,7 +35,8 @@ pub record AreInRange (facts : List Fact) : Type 0 where
       → entry_at facts meter place ≡ Some found
       → IsSound found.before
 
--- Theorem: if the records follow the rules (`AreLawful`), then the numbers of all meters' states
--- are in range (`AreInRange`).
+-- Theorem: suppose that the records follow the rules for adding records (`AreLawful`). Then each
+-- meter's count, scale factor and total energy are in range (`AreInRange`), now and before each
+-- entry.
 abbrev pub InstallationsAreInRange : Type 0
 InstallationsAreInRange = (facts : List Fact) → AreLawful facts → AreInRange facts

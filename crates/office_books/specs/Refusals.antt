@@ -45,7 +45,7 @@ use Rattle.office_books.specs.Readings.{judgement}
 use Rattle.office_books.specs.Sessions.{Slot, slot_of, present_of, is_startable}
 use Rattle.office_books.specs.History.{History, Opened, Fed, facts_of, slots_of, latest_of, next_poll, Made, made_by, corrected_at, spans_by, round_spans, sends_by, kind_of}
 
--- The maximum number of devices.
+-- The maximum number of devices in a store.
 abbrev pub device_limit : ℕ
 device_limit = MAX_DEVICES
 
@@ -57,8 +57,8 @@ register_limit = MAX_REGISTERS
 abbrev pub installation_limit : ℕ
 installation_limit = MAX_INSTALLATIONS
 
--- True if no meter was ever installed at the accounting register with the given name, or if no
--- accounting register has the name.
+-- True if no meter was ever installed at the accounting register (a named energy counter) with the
+-- given name, or if no accounting register has the name.
 abbrev pub has_no_meter : List Fact → Option (List ℕ) → Bool
 has_no_meter facts register = is_none (option_and_then (installation_at facts) register)
 
@@ -69,8 +69,8 @@ has_place facts place None = false
 has_place facts place (Some opening) =
     nat_le 1 place && nat_le place (length (rows_of facts opening) + 1)
 
--- Refusal `NotFound`: the command names a device, point list, accounting register, meter or entry
--- that does not exist.
+-- Refusal `NotFound`: the command names a device, point list, accounting register (a named energy
+-- counter), meter or entry that does not exist.
 abbrev pub asks_unknown : List Slot → List Fact → Command → Bool
 asks_unknown slots facts (command.AddDevice c) = false
 asks_unknown slots facts (command.PutList c) = is_none (slot_of slots c.device)
@@ -88,8 +88,8 @@ asks_unknown slots facts (command.StartPoll c) = is_none (slot_of slots c.device
 asks_unknown slots facts (command.StartRound c) =
     is_none (slot_of slots c.device) || is_none (option_and_then (list_of facts) c.device)
 
--- Refusal `Exists`: a device, accounting register or meter already has the name that the command
--- gives, or the accounting register already has an open meter.
+-- Refusal `Exists`: a device, accounting register (a named energy counter) or meter already has the
+-- name that the command gives, or the accounting register already has an open meter.
 abbrev pub asks_taken : List Slot → List Fact → Command → Bool
 asks_taken slots facts (command.AddDevice c) = is_some (slot_of slots c.name)
 asks_taken slots facts (command.AddRegister c) =
@@ -146,19 +146,19 @@ is_closed (Some row) = row.ended
 abbrev pub asks_ended : List Fact → Command → Bool
 asks_ended facts c = is_closed (option_and_then (installation_at facts) (corrected_at c))
 
--- True if polls can start on a device: it is connected, and its session is ready. A session is not
--- ready if too many polls are pending, the next transaction identifier is pending, or its stream is
--- garbled.
+-- True if polls can start on a device: it is connected, and its Modbus session is ready. A session
+-- is not ready if too many polls are pending (without an outcome), the next transaction identifier
+-- is pending, or its stream is garbled.
 abbrev pub is_ready : Option Slot → Bool
 is_ready None = false
 is_ready (Some slot) = is_startable slot.device slot.present
 
--- True if the device with a given name is connected and its session can start a poll.
+-- True if the device with a given name is connected and its Modbus session can start a poll.
 abbrev pub can_start : List Slot → Option (List ℕ) → Bool
 can_start slots device = is_ready (slot_of slots device)
 
--- Refusal `Busy`: the command starts polls, but its device is not connected or the device's session
--- cannot start a poll.
+-- Refusal `Busy`: the command starts polls, but its device is not connected or the device's Modbus
+-- session cannot start a poll.
 abbrev pub asks_busy : List Slot → Command → Bool
 asks_busy slots (command.StartPoll c) = not (can_start slots c.device)
 asks_busy slots (command.StartRound c) = not (can_start slots c.device)
@@ -213,8 +213,9 @@ is_full_of_registers facts None = false
 is_full_of_registers facts (Some device) =
     nat_le register_limit (length (registers_of facts device))
 
--- Refusal `Limit`: the maximum number of devices, accounting registers or meters is reached, or a
--- polling round starts at an index past the end of the plan.
+-- Refusal `Limit`: the maximum number of devices, accounting registers (named energy counters) or
+-- meters is reached. Also if a polling round starts at an index past the end of the plan (the reads
+-- that cover a point list).
 abbrev pub is_crowded : List Slot → List Fact → Command → Bool
 is_crowded slots facts (command.AddDevice c) = nat_le device_limit (length slots)
 is_crowded slots facts (command.AddRegister c) = is_full_of_registers facts c.device
@@ -398,8 +399,8 @@ AreAccepted [] = Unit {0}
 AreAccepted (Opened at ∷ past) = (opening_refusal_of (facts_of past) at ≡ None) × AreAccepted past
 AreAccepted (Fed at e ∷ past) = IsAccepted past at e × AreAccepted past
 
--- The total number of reads that a command requests: for a polling round, the reads of the complete
--- plan, otherwise 1.
+-- The total number of reads that a command requests: for a polling round, all reads of the device's
+-- plan (those that cover its point list), otherwise 1.
 abbrev pub reads_in_all : List Fact → Command → ℕ
 reads_in_all facts (command.StartRound c) =
     length (round_spans 0 (option_and_then (list_of facts) c.device))
@@ -432,7 +433,7 @@ abbrev pub unless_refused : Answer → Option Refusal → Result Answer Refusal
 unless_refused given None = Ok given
 unless_refused given (Some why) = Err why
 
--- The answer to a request whose idempotency key is stored, if there is one, otherwise the given
+-- The answer to a request whose idempotency key is stored. If the key is not stored, the given
 -- answer.
 abbrev pub unless_kept : Result Answer Refusal → Option (Result CommandKind Refusal)
     → Result Answer Refusal

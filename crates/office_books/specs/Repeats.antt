@@ -8,8 +8,8 @@ use Rattle.office_books.specs.Facts.{reply_of}
 use Rattle.office_books.specs.declared.books.Repeat.{Repeat}
 use Rattle.office_books.specs.declared.books.Repeat.TheVariants.{Same, Other}
 
--- The value `Same` with the kind of the stored command if the request has the bytes of the stored
--- request, otherwise `Other`.
+-- The value `Same` with the kind of the stored command if the request has the bytes of the request
+-- stored under its idempotency key, otherwise `Other`.
 abbrev pub as_repeat : (request : List ℕ) → Reply → Repeat
 as_repeat request reply = if bytes_eq reply.request request then Same reply.kind else Other
 

@@ -1,4 +1,5 @@
--- Guarantees of queries that pass rows to a sink one by one.
+-- Defines which rows of a query a sink (a consumer of rows) received: all rows in order, or only
+-- the first ones.
 use Rattle.std.specs.Prelude.{◌≡◌, ℕ, List, [], ◌∷◌, take, Result, OnOk}
 use Rattle.office_events.specs.declared.facts.Fact.{Fact}
 use Rattle.office_books.specs.declared.faults.BooksFault.{BooksFault}
@@ -11,14 +12,15 @@ TakesAll takes before [] after = after ≡ before
 TakesAll {S} takes before (row ∷ rows) after =
     (next : S) × takes before row next × TakesAll takes next rows after
 
--- True if the sink received the first rows of the list in order, possibly none or all of them.
+-- True if the sink (a consumer of rows) received the first rows of the list in order, possibly none
+-- or all of them.
 abbrev pub TakesFirst : {S T : Type 0} → (takes : S → T → S → Type 0) → (before : S) → List T
     → (after : S) → Type 0
 TakesFirst takes before rows after = (n : ℕ) × TakesAll takes before (take n rows) after
 
--- The guarantees of a query that passes rows to a sink. If the store is clean (every wrong result
--- was detected), the sink receives the expected rows from the first on. It receives all of them if
--- the query returns `Ok`. The query changes the sink in no other way.
+-- The guarantees of a query that passes rows to a sink (a consumer of rows). If the store is clean
+-- (every wrong result was detected), the sink receives the expected rows from the first on. It
+-- receives all of them if the query returns `Ok`. The query changes the sink in no other way.
 pub record HandsOn {S T : Type 0} (takes : S → T → S → Type 0) (old new : Ledger)
     (before after : S)
     (result : Result (Unit {0}) BooksFault) (rows : List Fact → List T) : Type 0 where

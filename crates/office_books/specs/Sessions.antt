@@ -22,20 +22,20 @@ pub record EndedSession : Type 0 where
   pub events : List session.Event
   pub restarted : Bool
 
--- A device with its ended sessions (the latest first), and with its present session if it is
+-- A device with its ended Modbus sessions (the latest first), and with its present session if it is
 -- connected. A session is the list of its events, in order.
 pub record Slot : Type 0 where
   pub device : Device
   pub ended : List EndedSession
   pub present : Option (List session.Event)
 
--- The slot (device with its sessions) of the device with a given name, or `None` if no device has
--- the name.
+-- The slot (a device with its Modbus sessions) of the device with a given name, or `None` if no
+-- device has the name.
 abbrev pub slot_of : List Slot → Option (List ℕ) → Option Slot
 slot_of slots given = find (λ slot. is_named given slot.device.name) slots
 
--- The present session of the device with a given name. `None` if no device has the name, or the
--- device is not connected.
+-- The present Modbus session of the device with a given name. `None` if no device has the name, or
+-- the device is not connected.
 abbrev pub present_of : List Slot → Option (List ℕ) → Option (List session.Event)
 present_of slots given = option_and_then (λ slot. slot.present) (slot_of slots given)
 
@@ -52,7 +52,8 @@ started_on (command.StartPoll c) = c.device
 started_on (command.StartRound c) = c.device
 started_on _ = None
 
--- True if a device is connected, and its session can start a poll at the time of its last event.
+-- True if a device is connected, and its Modbus session can start a poll at the time of its last
+-- event.
 abbrev pub is_startable : Device → Option (List session.Event) → Bool
 is_startable device None = false
 is_startable device (Some events) =
@@ -69,7 +70,7 @@ pub record Send : Type 0 where
 abbrev pub start_by : (at : ℕ) → Device → Send → session.Event
 start_by at device send = session.Start at send.number device.unit (span_view send.span)
 
--- The reads that a session can start: the given reads before the first read that the session
+-- The reads that a Modbus session can start: the given reads before the first read that the session
 -- refuses.
 abbrev pub sends_on : (number at : ℕ) → Device → List session.Event → List ReadSpan → List Send
 sends_on number at device before [] = []
@@ -79,8 +80,8 @@ sends_on number at device before (span ∷ spans) =
     then send ∷ sends_on (number + 1) at device (before ++ start_by at device send ∷ []) spans
     else []
 
--- The reads that the present session of a device can start. If the device is not connected, the
--- list is empty.
+-- The reads that the present Modbus session of a device can start. If the device is not connected,
+-- the list is empty.
 abbrev pub sends_at : (number at : ℕ) → Device → Option (List session.Event) → List ReadSpan
     → List Send
 sends_at number at device None spans = []
@@ -160,32 +161,32 @@ device_by c =
     record { name = name; unit = c.unit; timeout = c.timeout; window = c.window })
     c.name
 
--- The slot (device with its sessions) of a new device, which is not connected yet. Without a
--- device, the list is empty.
+-- The slot (a device with its Modbus sessions) of a new device, which is not connected yet. Without
+-- a device, the list is empty.
 abbrev pub new_slot : Option Device → List Slot
 new_slot None = []
 new_slot (Some device) = (record { device = device; ended = []; present = None }) ∷ []
 
--- The slot (device with its sessions) of the device that a command adds. If the command adds no
--- device, the list is empty.
+-- A list with the slot (a device with its Modbus sessions) of the device that a command adds. If
+-- the command adds no device, the list is empty.
 abbrev pub slots_added : Option Command → List Slot
 slots_added (Some (command.AddDevice c)) = new_slot (device_by c)
 slots_added _ = []
 
--- The slots (devices with their sessions) after an event: the updated existing slots, then the slot
--- of a device that the event adds.
+-- The slots (devices with their Modbus sessions) after an event: the updated existing slots, then
+-- the slot of a device that the event adds.
 abbrev pub slots_after : (number at : ℕ) → List ReadSpan → Event → List Slot → List Slot
 slots_after number at spans e slots =
     map (slot_after number at spans e) slots ++ slots_added (command_in e)
 
--- The present Modbus session of a device as an ended session after the program restarted. Without a
--- session, the list is empty.
+-- A list with the present Modbus session of a device, as a session that a restart of the program
+-- ended. If the device has no session, the list is empty.
 abbrev pub ended_by_restart : Option (List session.Event) → List EndedSession
 ended_by_restart None = []
 ended_by_restart (Some events) = (record { events = events; restarted = true }) ∷ []
 
--- The slot (device with its sessions) after the program restarted. The present session has ended,
--- and the device is not connected.
+-- The slot (a device with its Modbus sessions) after the program restarted. The present session has
+-- ended, and the device is not connected.
 abbrev pub slot_restarted : Slot → Slot
 slot_restarted slot = record {
   device = slot.device;

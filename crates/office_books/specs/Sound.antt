@@ -32,8 +32,8 @@ pub record HasNumbers (opening : Opening) : Type 0 where
   pub raw : opening.raw < opening.range
   pub scale : IsScale opening.sf
 
--- True if the energy of a meter's valid entries can be added up without a fault. The rows are given
--- oldest first.
+-- True if the energy of a meter's valid (not voided) entries can be added up without a fault. The
+-- rows are given oldest first.
 abbrev pub HaveAccount : Opening → List EntryRow → Type 0
 HaveAccount opening rows = HasAccount (installed opening) (entries_in (latest_first rows))
 
@@ -51,21 +51,22 @@ pub record ReadsPlace (old new : Ledger) (result : Result (Option EntryContext) 
     pub reads : OnlyReads old new result
     pub sound : IfOk result (λ place. IfSome place (λ p. IsSound p.before))
 
--- True if the entry is admissible as the next entry of the given installed meter.
+-- True if the rules for meter entries accept the entry as the next entry of the given installed
+-- meter, without a fault.
 abbrev pub MayEnter : Installation → Entry → Type 0
 MayEnter row e =
     entered row.opening.range row.total row.last e
     ≡ Ok (after row.last e, step_to row.opening.range row.last e)
 
--- States that, if the entry is admissible, `moved` is the meter's state after the entry, with the
--- energy of the entry added. States nothing otherwise.
+-- States that, if the rules for meter entries accept the entry as the meter's next entry, `moved`
+-- is the meter's state after it, with the energy of the entry added. States nothing otherwise.
 abbrev pub MovesBy : Entry → (row moved : Installation) → Type 0
 MovesBy e row moved =
     (last : Last) (step : Step) → entered row.opening.range row.total row.last e ≡ Ok (last, step)
     → (moved.last ≡ last) × (moved.total ≡ row.total + step.mwh)
 
--- States that, if the entry is inadmissible, it leaves the meter's state unchanged. States nothing
--- otherwise.
+-- States that, if the rules for meter entries do not accept the entry as the meter's next entry, it
+-- leaves the meter's state unchanged. States nothing otherwise.
 abbrev pub StaysAt : Entry → (row moved : Installation) → Type 0
 StaysAt e row moved =
     (fault : TermFault) → entered row.opening.range row.total row.last e ≡ Err fault → moved ≡ row

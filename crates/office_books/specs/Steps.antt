@@ -1,4 +1,5 @@
--- Theorems about how a new record that the rules accept changes the stored state of a meter.
+-- Theorems about how a new record changes the stored state of a meter, if the rules for adding
+-- records accept the new record.
 use Rattle.std.specs.Prelude.{◌≡◌, ◌+◌, true, false, List, [], ◌∷◌, Some, None, if◌then◌else◌}
 use Rattle.energy_core.specs.declared.entries.Entry.{Entry}
 use Rattle.energy_core.specs.declared.entries.Step.{Step}
@@ -40,7 +41,7 @@ HoldsChangeNothing = (held : HeldReading) (facts : List Fact) (opening : Opening
 
 -- States that adding an opening (installation record) installs its meter. The meter is found by its
 -- name and by its accounting register (an energy counter). Its counter has the state of the
--- opening, its energy is 0, and it has no rows.
+-- opening, its energy is 0, and it has no later entries and no interval rows.
 pub record Begins (facts : List Fact) (opening : Opening) : Type 0 where
   pub by_name : opening_of (fact.Opening opening ∷ facts) opening.meter ≡ Some opening
   pub at_register : installed_at (fact.Opening opening ∷ facts) opening.register ≡ Some opening
@@ -49,8 +50,8 @@ pub record Begins (facts : List Fact) (opening : Opening) : Type 0 where
   pub rows : rows_of (fact.Opening opening ∷ facts) opening ≡ []
   pub intervals : rows_of_opening (fact.Opening opening ∷ facts) opening ≡ []
 
--- Theorem: each opening (installation record) that the rules accept installs its meter, as `Begins`
--- describes.
+-- Theorem: each opening (installation record) that the rules for adding records accept installs its
+-- meter with the opening's counter state, an energy of 0 and no rows (`Begins`).
 abbrev pub OpeningsBegin : Type 0
 OpeningsBegin = (opening : Opening) (facts : List Fact) → AreLawful (fact.Opening opening ∷ facts)
     → Begins facts opening
@@ -71,9 +72,9 @@ step_from row e = step_to row.opening.range row.last e
 -- True if a new entry of an open meter adds one entry row, and advances the meter's state by the
 -- entry's increase of the counter.
 --
--- The energy of the increase is added to the interval rows (energy by quarter hour). Two equal
--- definitions state the result. The first merges the new energy into the last row, and the second
--- adds it to the row of each quarter hour.
+-- After a new entry, the energy of the counter's increase is added to the interval rows (energy by
+-- quarter hour). Two equal definitions state the result. The first merges the new energy into the
+-- last row, and the second adds it to the row of each quarter hour.
 pub record MovesOn (booked : BookedEntry) (facts : List Fact) (opening : Opening) : Type 0 where
   pub unended : (installation_of facts opening).ended ≡ false
   pub goes_on : journals.ContinuesJournal (installed opening) (journal_of facts opening.meter)
@@ -89,8 +90,8 @@ pub record MovesOn (booked : BookedEntry) (facts : List Fact) (opening : Opening
       rows_of_opening (fact.Entry booked ∷ facts) opening
       ≡ with_each shares (rows_of_opening facts opening)
 
--- Theorem: each entry record that the rules accept advances the state of its meter, as `MovesOn`
--- describes.
+-- Theorem: each entry record that the rules for adding records accept adds one row to its meter.
+-- The record advances the meter's state by the entry's increase of the counter (`MovesOn`).
 abbrev pub EntriesMoveOn : Type 0
 EntriesMoveOn = (booked : BookedEntry) (facts : List Fact) (opening : Opening)
     → AreLawful (fact.Entry booked ∷ facts)

@@ -16,8 +16,9 @@ use Rattle.office_books.specs.Meters.{opened, installed, journal_of, rows_of, in
 -- next valid entry. If no valid entry follows, the counter returns to its state before the voided
 -- entry, otherwise it keeps its state.
 --
--- The energy of the steps to and from the voided entry is subtracted from the total energy and from
--- the energy by quarter hour. The energy of the direct step between the entry's neighbors is added.
+-- The energy of the steps to and from a voided (cancelled) entry is subtracted from the total
+-- energy and from the energy by quarter hour. The energy of the direct step between the entry's
+-- neighbors is added.
 pub record GivesWay (voided : VoidedEntry) (facts : List Fact) (opening : Opening) : Type 0 where
   pub around : Around
   pub found : entry_at facts voided.meter voided.place ≡ Some (place_in facts opening around)
@@ -38,8 +39,9 @@ pub record GivesWay (voided : VoidedEntry) (facts : List Fact) (opening : Openin
       ≡ rows_until opening.at (installation_of (fact.Void voided ∷ facts) opening).last.at
       (with_each put (without_each out (rows_of_opening facts opening)))
 
--- Theorem: each void (cancellation) that the rules accept changes the state of its meter as
--- `GivesWay` describes.
+-- Theorem: each void (cancellation) that the rules for adding records accept changes the state of
+-- its meter as `GivesWay` states. The energy of the direct step between the voided entry's
+-- neighbors replaces that of the steps to and from the entry.
 abbrev pub VoidedEntriesGiveWay : Type 0
 VoidedEntriesGiveWay = (voided : VoidedEntry) (facts : List Fact) (opening : Opening)
     → AreLawful (fact.Void voided ∷ facts) → opening_of facts voided.meter ≡ Some opening

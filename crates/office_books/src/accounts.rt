@@ -14,8 +14,8 @@ use office_events::{Installation, Opening};
 /// Returns the state of a meter from its opening (installation record) and its later entry rows,
 /// the oldest first.
 ///
-/// Returns `None` if a number of the opening is out of range, or if the energy of the valid entries
-/// cannot be added up.
+/// Returns `None` if a number of the opening is out of range, or if the energy of the valid (not
+/// voided) entries cannot be added up.
 pub fn installation_after(opening: &Opening, rows: &[EntryRow], ended: bool) -> Option<Installation>
     ensures stands { IfSome result
         (λ row. row ≡ standing opening.now (entries_in (latest_first rows.now)) ended) }

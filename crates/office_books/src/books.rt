@@ -10,13 +10,14 @@ use office_events::{
     PollRow, Register,
 };
 
-/// A sink that receives rows one by one and cannot fail. A sink that forwards its rows must record
-/// its own errors.
+/// A sink (a consumer of rows) that receives rows one by one and cannot fail. A sink that forwards
+/// its rows must record its own errors.
 pub trait RowSink<T> {
-    /// The relation between the sink before it receives a row, the row, and the sink afterwards.
+    /// The relation between the sink (a consumer of rows) before it receives a row, the row, and
+    /// the sink afterwards.
     ghost takes: { Self → T → Self → Type 0 };
 
-    /// Receives one more row.
+    /// Passes one more row to the sink (a consumer of rows).
     fn put(&mut self, row: T)
         ensures { takes self.old row self.new };
 }
@@ -24,23 +25,26 @@ pub trait RowSink<T> {
 /// The result of comparing a request with the stored request of the same idempotency key.
 #[derive(Clone, Copy, PartialEq, Eq)]
 pub enum Repeat {
-    /// The stored request has the same bytes, so the request is a retry. A command of this kind was
-    /// executed for the stored request.
+    /// The store has a request with this idempotency key and the same bytes, so the new request is
+    /// a retry. A command of this kind was executed for the stored request.
     Same(CommandKind),
-    /// The stored request has other bytes, so the idempotency key was reused.
+    /// The request that is stored under the idempotency key has other bytes than the new request,
+    /// so the key was reused.
     Other,
 }
 
-/// A store of lawful records, which are records that the rules accept one after another.
+/// A store of lawful records, which means that the rules for adding records accept each record
+/// after the earlier ones.
 ///
-/// A lookup reads the records and never changes them. `book` adds all of its records, or none.
+/// A lookup reads the records and never changes them. The function `book` adds all of its records,
+/// or none.
 ///
 /// The postconditions on results apply only if the store is clean (`is_clean`) after the call: the
 /// storage returned what was written to it. A store in memory is always clean.
 ///
-/// If the store is not clean, four guarantees remain. The store counts failures, and a lookup
-/// changes no records. The time zone stays the same, and all numbers of an installation are in
-/// range.
+/// If the store is not clean (the storage did not return what was written to it), four guarantees
+/// remain. The store counts failures, and a lookup changes no records. The time zone stays the
+/// same, and all numbers of an installation are in range.
 pub trait Books: Drop {
     ghost use Rattle.std.specs.Prelude.{◌≡◌, List, reverse, length};
     ghost use Rattle.std.specs.List.{filter};
@@ -69,12 +73,12 @@ pub trait Books: Drop {
     fn faults(&self) -> u64
         ensures { result ≡ (ledger self.now).failures.count };
 
-    /// Returns the time zone of the civil days.
+    /// Returns the time zone by which the store determines civil days.
     fn zone(&self) -> Zone
         ensures { result ≡ (ledger self.now).zone };
 
-    /// Proves that two lists of records yield the same database tables, if an open store without
-    /// undetected faults may contain each of the two lists.
+    /// Proves that an open store whose wrong results were all detected determines its tables: any
+    /// two lists of records that the store may contain yield the same tables.
     fn tables_are_known(&self)
         ensures { AreKnown (ledger self.now) };
 
@@ -90,14 +94,15 @@ pub trait Books: Drop {
             (λ known list. list ≡ list_of known device.now) }
         ensures reads { OnlyReads (ledger self.old) (ledger self.new) result };
 
-    /// Returns the number of reads in the plan of a device; `None` if the device has no point list.
+    /// Returns the number of reads in the plan of a device (the Modbus reads that cover its point
+    /// list); `None` if the device has no point list.
     fn read_count(&mut self, device: &Name) -> Result<Option<usize>, BooksFault>
         ensures found { Finds (ledger self.old) (ledger self.new) result
             (λ known n. n ≡ read_count_of (list_of known device.now)) }
         ensures reads { OnlyReads (ledger self.old) (ledger self.new) result };
 
-    /// Returns at most `most` reads of the device's plan from index `from` on, in order. The first
-    /// read has index 0.
+    /// Returns at most `most` reads of a device's plan (the Modbus reads that cover its point list)
+    /// from index `from` on, in order. The first read has index 0.
     fn reads(&mut self, device: &Name, from: u64, most: usize) -> Result<Vec<ReadSpan>, BooksFault>
         ensures found { Finds (ledger self.old) (ledger self.new) result
             (λ known v. v.items ≡ reads_from from most (list_of known device.now)) }
@@ -110,7 +115,8 @@ pub trait Books: Drop {
             (λ known row. row ≡ register_of known name.now) }
         ensures reads { OnlyReads (ledger self.old) (ledger self.new) result };
 
-    /// Returns the accounting registers of a device, in the order in which they were added.
+    /// Returns the accounting registers (named energy counters) of a device, in the order in which
+    /// they were added.
     fn registers(&mut self, device: &Name) -> Result<Vec<Register>, BooksFault>
         ensures found { Finds (ledger self.old) (ledger self.new) result
             (λ known v. v.items ≡ registers_of known device.now) }
@@ -158,7 +164,7 @@ pub trait Books: Drop {
 
     /// Returns the entry of a meter with a sequence number of at least 2, or `None` if the meter
     /// has no such entry. The result includes the meter's state before the entry, and the next
-    /// valid entry.
+    /// valid (not voided) entry.
     fn entry(&mut self, meter: &Name, place: u64) -> Result<Option<EntryContext>, BooksFault>
         ensures found { Finds (ledger self.old) (ledger self.new) result
             (λ known row. row ≡ entry_at known meter.now place) }
@@ -192,7 +198,7 @@ pub trait Books: Drop {
             (λ known n. n ≡ length (polls_in known)) }
         ensures reads { OnlyReads (ledger self.old) (ledger self.new) result };
 
-    /// Returns the pending polls, in the order in which they were started.
+    /// Returns the pending polls (without an outcome), in the order in which they were started.
     fn pending(&mut self) -> Result<Vec<Poll>, BooksFault>
         ensures found { Finds (ledger self.old) (ledger self.new) result
             (λ known v. v.items ≡ pending_in known) }
@@ -217,8 +223,8 @@ pub trait Books: Drop {
             (λ known kept. kept ≡ repeat_of known caller.now number request.now) }
         ensures reads { OnlyReads (ledger self.old) (ledger self.new) result };
 
-    /// Passes the energy of a meter to the sink: one row for each quarter hour in the span, in
-    /// order of time.
+    /// Passes the energy of a meter to the sink (a consumer of rows): one row for each quarter hour
+    /// in the time span, in order of time.
     fn intervals<K: RowSink<Share>>(
         &mut self,
         meter: &Name,
@@ -229,9 +235,9 @@ pub trait Books: Drop {
             (λ known. rows_within span (rows_of_meter known meter.now)) }
         ensures reads { OnlyReads (ledger self.old) (ledger self.new) result };
 
-    /// Passes the energy of an accounting register (an energy counter) to the sink: one row for
-    /// each meter and quarter hour in the span. The rows are sorted by the installation of their
-    /// meter, then by time.
+    /// Passes the energy of an accounting register (an energy counter) to the sink (a consumer of
+    /// rows): one row for each meter and quarter hour in the time span. The rows are sorted by the
+    /// installation of their meter, then by time.
     fn register_intervals<K: RowSink<Share>>(
         &mut self,
         register: &Name,
@@ -242,8 +248,8 @@ pub trait Books: Drop {
             (λ known. rows_within span (rows_of_register known register.now)) }
         ensures reads { OnlyReads (ledger self.old) (ledger self.new) result };
 
-    /// Passes the rejected readings of a meter in the span to the sink, in the order in which they
-    /// were recorded.
+    /// Passes the rejected readings of a meter in the time span to the sink (a consumer of rows),
+    /// in the order in which they were recorded.
     fn holds<K: RowSink<HeldReading>>(
         &mut self,
         meter: &Name,
@@ -254,8 +260,8 @@ pub trait Books: Drop {
             (λ known. holds_within span (holds_of known meter.now)) }
         ensures reads { OnlyReads (ledger self.old) (ledger self.new) result };
 
-    /// Adds all of the given records, or none of them. The rules must accept each record after the
-    /// records before it.
+    /// Adds all of the given records, or none of them. The rules for adding records (`AreLawful`)
+    /// must accept each record after the records before it.
     fn book(&mut self, facts: Vec<Fact>) -> Result<(), BooksFault>
         ensures books { ledgers.Books (ledger self.old) (ledger self.new) facts.items result };
 }

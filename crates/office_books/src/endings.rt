@@ -1,4 +1,4 @@
-//! Theorems about how polls end.
+//! Theorem: each started poll has ended exactly once or is pending (without an outcome).
 ghost use Rattle.office_books.specs.History.{History};
 ghost use Rattle.office_books.specs.Refusals.{AreAccepted};
 ghost use Rattle.office_books.specs.PollEndings.{PollsEndOnce};

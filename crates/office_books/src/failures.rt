@@ -24,7 +24,8 @@ impl Failures {
         }
     }
 
-    /// Counts one failure. A lack of memory is recorded as the last failure, but not counted.
+    /// Records the failure of one call to the store. A lack of memory is recorded as the last
+    /// failure, but not counted.
     fn note(&mut self, fault: BooksFault)
         ensures { self.new ≡ failed_by fault self.old }
     {

@@ -5,7 +5,8 @@ use std::error::Error;
 use std::fmt;
 use std::fmt::{Display, Formatter};
 
-/// The kind of a store failure.
+/// The kind of a store failure: the store rejected a record or its storage failed, or the store
+/// contains inconsistent data.
 #[derive(Clone, Copy, Debug, PartialEq, Eq)]
 pub enum StoreFault {
     /// The store rejected a record, or its storage failed.

@@ -1,4 +1,5 @@
-//! Theorems about lawful records, in which the rules accept each record after the earlier records.
+//! Theorems about lawful records, in which the rules for adding records accept each record after
+//! the earlier records.
 ghost use Rattle.office_books.specs.Laws.{FactsAreBounded, JournalsFit, MetersAreKept, TruthIsRecorded, VoidsLeaveNoTrace};
 ghost use Rattle.office_books.specs.Ranges.{InstallationsAreInRange};
 
@@ -13,12 +14,12 @@ pub fn journals_fit()
     ensures { JournalsFit }
 {}
 
-/// Proves that the energy of each meter balances if the rules accept all records. The energy is the
-/// last value less the first, plus a full range for each recorded rollover, plus the differences
-/// that resets and rescales record.
+/// Proves that the energy of each meter balances if the records are lawful. The energy is the last
+/// counter value (in mWh) less the first, plus a full range for each recorded rollover, plus the
+/// differences that resets and rescales record.
 ///
-/// Voided (cancelled) entries do not count, and the energies by quarter hour add up to the meter's
-/// total energy.
+/// A meter's voided (cancelled) entries do not count, and its energies by quarter hour add up to
+/// its total energy.
 pub fn meters_are_kept()
     ensures { MetersAreKept }
 {
@@ -47,13 +48,13 @@ pub fn voids_leave_no_trace()
 }
 
 /// Proves that no timestamp, poll number or number of an idempotency key exceeds its limit in
-/// records that the rules accept.
+/// records that the rules for adding records accept.
 pub fn facts_are_bounded()
     ensures { FactsAreBounded }
 {}
 
-/// Proves that, if the rules accept all records, the counter values, scale factors and energies of
-/// each meter are in range. This holds now and before each entry.
+/// Proves that, if the rules for adding records accept all records, the counter values, scale
+/// factors and energies of each meter are in range. This holds now and before each entry.
 pub fn installations_are_in_range()
     ensures { InstallationsAreInRange }
 {

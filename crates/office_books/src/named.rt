@@ -13,8 +13,8 @@ use mb_wire::ReadSpan;
 use office_events::{Installation, Name, PlannedList};
 use std::alloc::Global;
 
-/// Returns the point list of the named device, or `None` if the name is invalid or the device has
-/// no point list.
+/// Returns the point list (the Modbus registers to read) of the named device, or `None` if the name
+/// is invalid or the device has no point list.
 pub fn list_at<B: Books>(
     books: &mut B,
     given: &Option<Name>,
@@ -29,8 +29,8 @@ pub fn list_at<B: Books>(
     }
 }
 
-/// Returns the number of reads in the named device's plan, or `None` if the name is invalid or the
-/// device has no point list.
+/// Returns the number of reads in the named device's plan (the Modbus reads that cover its point
+/// list). Returns `None` if the name is invalid or the device has no point list.
 pub fn read_count_at<B: Books>(
     books: &mut B,
     given: &Option<Name>,
@@ -45,7 +45,8 @@ pub fn read_count_at<B: Books>(
     }
 }
 
-/// Returns at most `most` reads of the named device's plan from index `from` on.
+/// Returns at most `most` reads of the named device's plan (the Modbus reads that cover its point
+/// list) from index `from` on.
 pub fn reads_at<B: Books>(
     alloc: Global,
     books: &mut B,

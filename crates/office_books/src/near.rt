@@ -1,11 +1,13 @@
-//! Replaces the energy before an entry by the total energy of the entry's meter.
+//! Replaces the energy in the state that a meter had before an entry by the meter's present total
+//! energy.
 ghost use Rattle.std.specs.Prelude.{◌≡◌};
 ghost use Rattle.office_books.specs.Near.{with_energy};
 ghost use Rattle.office_books.specs.Ranges.{IsSound};
 
 use office_events::{EntryContext, Installation};
 
-/// Returns the entry with its meter's total energy instead of the meter's energy before the entry.
+/// Returns the entry and its context. In the meter's state before the entry, the meter's present
+/// total energy replaces the energy.
 pub fn with_whole_energy(place: &EntryContext, whole: &Installation) -> EntryContext
     ensures same { result ≡ with_energy whole.now.total place.now }
     ensures sound { IsSound place.now.before → IsSound whole.now → IsSound result.before }

@@ -1,4 +1,5 @@
-//! Judges and adds the next entry of an installed meter.
+//! Judges the next entry (a reading, reset, closing or similar) of an installed meter by the rules
+//! for meter entries, and adds it to the meter's state.
 ghost use Rattle.std.specs.Prelude.{◌≡◌};
 ghost use Rattle.office_books.specs.Readings.{judgement};
 ghost use Rattle.office_books.specs.Ranges.{IsSound};
@@ -30,8 +31,8 @@ pub fn verdict_at(row: &Installation, reading: &Reading) -> Verdict
     energy_core::judge(&counter, &terms_of(row), &row.last, reading)
 }
 
-/// Returns the state of a meter after one more entry, or the unchanged state if the entry is not
-/// admissible.
+/// Returns the state of a meter after one more entry (a reading, reset, closing or similar). If the
+/// rules for meter entries do not accept the entry, returns the unchanged state.
 pub fn after_entry(row: &Installation, entry: &Entry) -> Installation
     requires { IsSound row.now }
     ensures sound { IsSound result }
@@ -53,8 +54,8 @@ pub fn after_entry(row: &Installation, entry: &Entry) -> Installation
     }
 }
 
-/// Returns the state of a meter after a stored entry. A closing entry closes the meter. A state
-/// with a number out of range is returned unchanged.
+/// Returns the state of a meter after a stored entry (a reading, reset, closing or similar). A
+/// closing entry closes the meter. A state with a number out of range is returned unchanged.
 pub fn moved(row: &Installation, booked: &BookedEntry) -> Installation
     ensures { IsSound row.now → MayEnter row.now booked.now.entry
         → result ≡ moved_by booked.now.kind booked.now.entry row.now }

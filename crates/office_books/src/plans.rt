@@ -1,4 +1,5 @@
-//! Selects Modbus reads from the plan of a device's point list.
+//! Selects Modbus reads from the plan of a device's point list. A plan is the fewest reads that
+//! cover the points.
 ghost use Rattle.std.specs.Prelude.{◌≡◌, IfOk, Some, map};
 ghost use Rattle.office_books.specs.Plans.{read_count_of, reads_from};
 
@@ -13,14 +14,16 @@ fn spans_of(alloc: Global, reads: &[PlannedRead]) -> Result<Vec<ReadSpan>, Alloc
     reads.iter().map(|read| read.span).collect(alloc)
 }
 
-/// Returns the number of reads in the plan of a point list.
+/// Returns the number of reads in the plan of a point list (the fewest Modbus reads that cover its
+/// points).
 pub fn read_count(list: &PlannedList) -> usize
     ensures { Some result ≡ read_count_of (Some list.now) }
 {
     list.reads().len()
 }
 
-/// Returns at most `most` reads of the plan from index `from` on, without copying the points.
+/// Returns at most `most` Modbus reads of a point list's plan from index `from` on, without copying
+/// the points.
 pub fn reads_from(
     alloc: Global,
     list: &PlannedList,

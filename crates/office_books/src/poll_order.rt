@@ -6,8 +6,8 @@ ghost use Rattle.office_books.specs.PollOrder.{PollsFit};
 use crate::endings::polls_end_once;
 use poll_core::one_event_more;
 
-/// Proves for all accepted events that poll numbers are consecutive and that the devices of polls
-/// exist. Only pending polls end.
+/// Proves for all accepted events that poll numbers are consecutive, that the device of each poll
+/// is recorded, and that only pending polls get an outcome.
 pub fn polls_fit()
     ensures { (history : History) → AreAccepted history → PollsFit (facts_of history) }
 {

@@ -30,9 +30,9 @@ fn contains_scale(span: ReadSpan, scale: ScaleSource) -> bool
 /// Returns true if the response to a Modbus read contains a reading of the accounting register (an
 /// energy counter).
 ///
-/// The read must have the register's function code and contain both Modbus registers of the
-/// counter. It must also contain the Modbus register with the scale factor, if the scale factor is
-/// not fixed.
+/// A Modbus read that covers an accounting register (a named energy counter) must have the
+/// register's function code and contain both Modbus registers of the counter. It must also contain
+/// the Modbus register with the scale factor, if the scale factor is not fixed.
 pub fn is_read_by(span: ReadSpan, register: &Register) -> bool
     ensures { result ≡ readings.is_read_by span register.now }
 {

@@ -1,5 +1,5 @@
-//! A theorem about the interval rows (energy by quarter hour) of accounting registers (energy
-//! counters).
+//! The theorem that the interval rows (energy by quarter hour) of each accounting register (an
+//! energy counter) are in order of their start times.
 ghost use Rattle.office_books.specs.Registers.{RegistersAreInTurn};
 
 use meter_journal::{
@@ -7,8 +7,9 @@ use meter_journal::{
     voids_go_no_further,
 };
 
-/// Proves that the start times of an accounting register's interval rows (energy by quarter hour)
-/// never decrease, even from one meter to the next. Therefore the rows can be added up by day.
+/// Proves that the start times of an accounting register's interval rows
+/// (energy by quarter hour) never decrease, even from one meter to the next. Therefore the rows can
+/// be added up by day.
 pub fn registers_are_in_turn()
     ensures { RegistersAreInTurn }
 {

@@ -1,4 +1,5 @@
-//! Checks whether all numbers of a meter's state are in range.
+//! Checks whether each number of a meter's state (such as its energy) is in its permitted range, as
+//! judging the meter's next reading requires.
 ghost use Rattle.std.specs.Prelude.{◌≡◌, false, IsTrue};
 ghost use Rattle.office_books.specs.Ranges.{IsSound};
 

@@ -1,11 +1,12 @@
-//! Theorems about how a new record changes a meter.
+//! Theorems about what a new record changes in the state, the entry rows and the interval rows of a
+//! meter.
 ghost use Rattle.office_books.specs.Steps.{EntriesMoveOn, HoldsChangeNothing, OpeningsBegin, OtherMetersStay};
 ghost use Rattle.office_books.specs.Voids.{VoidedEntriesGiveWay};
 
 use meter_journal::{entries_go_on, voids_change_two_rows};
 
-/// Proves that a record leaves a meter's state and rows unchanged if the record adds no line to the
-/// meter's journal (history).
+/// Proves that a record leaves a meter's state, its entry rows and its interval rows unchanged if
+/// the record adds no line to the meter's journal (history).
 pub fn other_meters_stay()
     ensures { OtherMetersStay }
 {}
@@ -16,22 +17,22 @@ pub fn holds_change_nothing()
 {}
 
 /// Proves that a newly installed meter has the state of its opening (first entry), and is found by
-/// its name and at its accounting register.
+/// its name and at its accounting register (a named energy counter).
 pub fn openings_begin()
     ensures { OpeningsBegin }
 {}
 
-/// Proves what a new entry changes: the counter's state, the meter's entry rows, and the energy of
-/// the quarter hours over which the entry's energy is spread.
+/// Proves what a new entry of a meter (such as a reading) changes: the counter's state, the meter's
+/// entry rows, and the energy of the quarter hours over which the entry's energy is spread.
 pub fn entries_move_on()
     ensures { EntriesMoveOn }
 {
     entries_go_on();
 }
 
-/// Proves the effect of a void (cancellation of an entry) on the meter. The rows of the voided
-/// entry and of the next valid entry change. In the meter's energy, one step between the entry's
-/// neighbors replaces the steps to and from the entry.
+/// Proves the effect of a void (cancellation of an entry) on the meter. The stored rows of the
+/// voided entry and of the next valid entry change. In the meter's energy, one step (energy between
+/// two entries) between the entry's neighbors replaces the steps to and from the entry.
 pub fn voided_entries_give_way()
     ensures { VoidedEntriesGiveWay }
 {

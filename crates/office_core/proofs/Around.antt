@@ -1,4 +1,5 @@
--- Lemmas about the range of timestamps that one civil day can contain in any time zone.
+-- Lemmas: in every time zone, the timestamps of the civil days in a range lie between the starts of
+-- two UTC days. These are two days before the range and two days after it.
 use Rattle.std.proofs.Common.{◌≡◌, ℕ, ◌<◌, ◌≤◌, true, false, Option, Some, None, refl, arith}
 use Rattle.std.specs.Prelude.{ℤ, pos, negsuc, ◌+ℤ◌, ◌-ℤ◌, ◌*ℤ◌, ◌<ℤ◌, ◌≤ℤ◌, ◌&&◌, nat_le, nat_lt}
 use Rattle.std.specs.Int.{int_div_euclid}
@@ -57,8 +58,8 @@ before : (till off : ℤ) (start : ℕ) → IsOffsetSeconds off → (int_div_euc
     → pos start <ℤ ((till +ℤ pos 2) *ℤ pos 86400)
 before till off start bound lt = omega (arith, signed_arith, bound.0, lt)
 
--- If a timestamp is on a requested day, then it lies between the UTC days two days before `from`
--- and two days after `till`.
+-- If a timestamp is on a day from `from` to `till`, then it lies after the UTC day two days before
+-- `from` starts. It also lies before the UTC day two days after `till` starts.
 lies_around : (from till : Date) (zone : Zone) (start : ℕ) → (is_le (int_cmp (epoch_day from) (day_at zone start)) && is_lt (int_cmp (day_at zone start) (epoch_day till))) ≡ true
     → (nat_le (utc_start (epoch_day from -ℤ pos 2)) start && nat_lt start (utc_start (epoch_day till +ℤ pos 2))) ≡ true
 lies_around from till zone start is =
@@ -73,8 +74,8 @@ lies_around from till zone start is =
     let ends_later : nat_lt start (utc_start (epoch_day till +ℤ pos 2)) ≡ true = grind (arith, nat_tests, high) in
     and_from _ _ has_begun ends_later
 
--- If a timestamp is on a day of a range of days, then the time span around this range contains the
--- timestamp. An end of the range may be open.
+-- If a timestamp is on a day of a range of days, then the range's time span contains the timestamp.
+-- The span has two more days on each side, or all times if the range lacks an end.
 pub has_each : (from till : Option Date) (zone : Zone) (start : ℕ)
     → (begins_by_number from (day_at zone start) && ends_after_number till (day_at zone start)) ≡ true → is_within (span_between from till) start ≡ true
 has_each (Some from) (Some till) zone start is = lies_around from till zone start is

@@ -1,4 +1,5 @@
--- Properties of several lookups in the store, if memory runs out or a lookup fails between them.
+-- Lemmas: several lookups in the store leave the store's records unchanged, even if memory runs out
+-- or a lookup fails between them.
 use Rattle.std.proofs.Common.{◌≡◌, subst, sym, refl, inr, Result, Ok, Err}
 use Rattle.std.specs.Prelude.{IfErr}
 use Rattle.std.specs.Result.{IsErrAnd}
@@ -21,7 +22,7 @@ reads_lacking a b x (Ok y) reads lacks = absurd lacks
 reads_lacking a b x (Err fault) reads lacks = reads_without a b x (Err fault) reads lacks
 
 -- If memory runs out before the first call to the store, then the store is unchanged. This meets
--- the guarantees of a sequence of calls to the store.
+-- the guarantees of a sequence of calls to the store (such as counted failures).
 pub passes_lacking : {U : Type 0} (a : Ledger) (r : Result U BooksFault) → IsErrAnd r (λ fault. fault ≡ Memory) → LedgerAfterCalls a a r
 passes_lacking a (Ok y) lacks = absurd lacks
 passes_lacking {U} a (Err fault) lacks =
@@ -31,7 +32,7 @@ pub asks_lacking : {U : Type 0} (a : Ledger) (r : Result U BooksFault) → IsErr
 asks_lacking a r lacks = record { goes = passes_lacking a r lacks; keeps = record { facts = λ known h. h; left = λ left may. may } }
 
 -- If a function returns the failure of a call to the store, then the guarantees of the failed call
--- also hold for the function.
+-- (the failure is counted) also hold for the function.
 pub passes_as : {T U : Type 0} (a b : Ledger) (fault : BooksFault) (r : Result U BooksFault) → LedgerAfterCalls {T = T} a b (Err fault) → IsErrAnd r (λ f. f ≡ fault)
     → LedgerAfterCalls a b r
 passes_as a b fault (Ok y) goes is = absurd is

@@ -119,8 +119,8 @@ module _ (zone : Zone) (asked : ℤ → Bool) where
   abbrev of_rows : ℤ → List Share → DayAccount
   of_rows day rows = record { day = day; count = distinct_count (starts_of rows); mwh = energy_of rows }
 
-  -- If `accounts` has the energy of each civil day, then its requested days have the energy of the
-  -- interval rows on these days.
+  -- If the list `accounts` has the energy of each civil day, then its entries for the requested
+  -- days have the energy of the interval rows on these days.
   pub accounts_asked : (rows : List Share) (accounts : List DayAccount) → AreAccounts zone rows accounts → AreAccounts zone (filter row_asked rows) (filter account_asked accounts)
   accounts_asked rows accounts are = record {
     in_order = in_order accounts are.in_order;
@@ -152,7 +152,8 @@ module _ (zone : Zone) (asked : ℤ → Bool) where
       let unique = one zone (filter row_asked rows) in
       unique.2 _ left ∙ sym (unique.2 _ right)
 
--- Lemmas on the energy of the requested days of an accounting register (a named energy counter).
+-- Lemmas: the energy of each civil day in a range, added up from the quarter hours of a time span
+-- around the range, equals that added up from all quarter hours.
 
 -- If a filter accepts each element, then the filtered list equals the complete list.
 all_kept : {X : Type 0} (xs : List X) → filter (λ x. true) xs ≡ xs
@@ -163,7 +164,8 @@ by_test : (asked : Span) (rows : List Share) → rows_within asked rows ≡ filt
 by_test span.All rows = sym (all_kept rows)
 by_test (span.Between from till) rows = refl
 
--- The test whether a date is in a range of dates gives the same result as the test by day numbers.
+-- The test whether a date is in a range of dates gives the same result as comparing the dates' day
+-- numbers.
 is_in_number : (range : DayRange) (total : DayTotal) → is_in range total.day ≡ has_day range (account_of total).day
 is_in_number range total =
     elim range.from as (λ from. (begins_by from total.day && ends_after range.till total.day)

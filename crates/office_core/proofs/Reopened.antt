@@ -38,8 +38,8 @@ read_left : {T : Type 0} (old new : Ledger) (past : History) (at : ℕ) (result 
     → Leaves old new (LeftByOpening {T = Unit {0}} past at (Err why))
 read_left old new past at result why reads = λ before may. (before, left_by_refused past at why before, reads.keeps.left before may)
 
--- If the store fails before the timestamp of an opening is checked, then the store's records are
--- unchanged.
+-- If the store fails before the timestamp of an opening of the store (a program start) is checked,
+-- then the store's records are unchanged.
 pub not_asked : {T : Type 0} (past : History) (at : ℕ) (old new : Ledger) (fault : BooksFault) (why : Refusal) → OnlyReads {T = T} old new (Err fault)
     → BooksStand old past → why ≡ as_refusal fault → IsNotOpened past at old new why
 not_asked {T = T} past at old new fault why reads stand is =

@@ -63,8 +63,8 @@ left_push past before between after [] one h k = (after, rw (sym h) k, refl)
 left_push past before between after (f ∷ fed) one h k =
     (h.0, h.1, left_push (with_answer past f.at f.event f.result) h.0 between after fed one h.2 k)
 
--- Suppose that the records that may remain after a crash changed as the answers of a run require.
--- Then the same holds after one more event of the run.
+-- Suppose that, after a run of events, a crash can leave only the lists of records that the answers
+-- to these events permit. Then this also holds after one more event of the run.
 run_push : (old between new : Ledger) (past : History) (opened : ℕ) (fed : List Answered) (one : Answered)
     → Leaves old between (LeftByRun past opened fed)
     → Leaves between new (LeftByEvent (history_after (Opened opened ∷ past) fed) one.at one.event one.result)
@@ -100,7 +100,9 @@ HasItsDay fed = IfErr fed.result IsNotForWantOfDay
 no_day_push : (fed : List Answered) (one : Answered) → All HasItsDay fed → HasItsDay one → All HasItsDay (fed ++ one ∷ [])
 no_day_push fed one h k = All-append HasItsDay fed (one ∷ []) h (All-cons HasItsDay one [] k (All-nil HasItsDay))
 
--- The guarantees of a run of events after its first events, `fed`, were processed.
+-- The guarantees of a run of events after its first events, `fed`, were processed: the answers, the
+-- program's state, the notifications, the failure counter and the records that a crash may leave
+-- follow from these events.
 pub record SoFar {B : Type 0} (ledger : B → Ledger) (books : B) (opened : ℕ) (fed : List Answered) (office : Office B) : Type 0 where
   pub stands : (past : History) → BooksStand (ledger books) past → (ledger (books_in office)).is_clean
       → Stands ledger (history_after (Opened opened ∷ past) fed) office
@@ -116,7 +118,8 @@ pub record SoFar {B : Type 0} (ledger : B → Ledger) (books : B) (opened : ℕ)
   pub clean : (ledger (books_in office)).is_clean → (ledger books).is_clean
   pub zone : (ledger (books_in office)).zone ≡ (ledger books).zone
 
--- The guarantees of the function that processes one event of a run of events.
+-- The guarantees of the function that processes one event of a run of events: the answer, the
+-- program's state, the notifications and the records that a crash may leave follow from the event.
 pub record Feeds {B : Type 0} (ledger : B → Ledger) (old new : Office B) (one : Answered) : Type 0 where
   pub answers : After ledger old new (λ past. IsAnswer past one.at one.event (failures_of ledger old) (failures_of ledger new) one.result)
   pub stands : After ledger old new (λ past. Stands ledger (with_answer past one.at one.event one.result) new)
@@ -126,8 +129,8 @@ pub record Feeds {B : Type 0} (ledger : B → Ledger) (old new : Office B) (one 
       → IsQuiet old new one.result
   pub ends : Ends ledger old new one.event one.result
 
--- If an event requests no command and ends no poll, then its answer reports no failure, whether the
--- program is running or has stopped.
+-- If an event requests no command and ends no poll, then its answer reports no failure. This holds
+-- whether the program is running or refuses all events after an earlier failure.
 not_failing : {B : Type 0} (ledger : B → Ledger) (past : History) (old new : Office B) (one : Answered) → Feeds ledger old new one
     → Stands ledger past old → SettlesNothing past one.at one.event → (stopped : Bool) → is_stopped old ≡ stopped
     → is_failure one.result ≡ false
@@ -162,8 +165,9 @@ further ledger books opened fed old new one so feeds = record {
   zone = feeds.ends.zone ∙ so.zone;
 }
 
--- Suppose that the guarantees of a run hold after its first `i` events. If the list has at most `i`
--- events, then the guarantees hold for the complete list.
+-- Suppose that the guarantees `SoFar` (for example, about the store's records) hold after the event
+-- engine got the first `i` events of a list. If the list has at most `i` events, they hold after
+-- the whole list.
 pub all_fed : {B : Type 0} (ledger : B → Ledger) (books : B) (opened : ℕ) (events : Events) (i : ℕ) (results : Results) (office : Office B)
     → length events ≤ i → SoFar ledger books opened (in_turn (take i events) results) office
     → SoFar ledger books opened (in_turn events results) office

@@ -1,4 +1,5 @@
--- Lemmas about several queries in sequence, each made only if the query before it succeeded.
+-- Lemmas about queries in sequence, each made only if the query before it succeeded. A refusal of
+-- one query is the refusal of all, and the guarantees of a single query also hold for the sequence.
 use Rattle.std.proofs.Common.{◌≡◌, inl, inr, true, Option, Some, None, refl, sym, ap, subst, ◌∙◌}
 use Rattle.std.specs.Prelude.{Result, Ok, Err}
 use Rattle.office_events.specs.declared.refusals.Refusal.{Refusal}
@@ -13,7 +14,8 @@ use Rattle.office_core.specs.Taking.{failures_of}
 use Rattle.office_core.specs.declared.office.Office.{Office}
 use Rattle.office_core.proofs.Taken.{outside_more}
 
--- Lemmas on the results of several queries in sequence.
+-- Lemmas on the results of several queries in sequence: if one of them is refused, the combined
+-- query is refused for the same reason.
 
 abbrev value_of : {T : Type 0} → Result T Refusal → Option T
 value_of (Ok x) = Some x
@@ -43,8 +45,8 @@ pub found_so : {T : Type 0} (m : Type 0) (found : Option T) (before after : Fail
     → IsFound m found before after (Ok x)
 found_so m found before after x is same = inl (ap or_not_found (sym is), same)
 
--- If the query for `f` is refused, then the combined query for `g`, which needs `f`, is refused for
--- the same reason.
+-- Suppose that a value `f` in the store is needed to find a second value `g`. If the query for `f`
+-- is refused, then the combined query for `g` is refused for the same reason.
 pub refused_on : {T U : Type 0} (few many : Type 0) (f : Option T) (g : Option U) (before mid after : Failures) (why : Refusal) → (few → many)
     → (f ≡ None → g ≡ None) → mid ≡ before → IsFound few f mid after (Err why) → IsFound many g before after (Err why)
 refused_on {T} {U} few many f g before mid after why more nothing same (inl is) =
@@ -55,7 +57,8 @@ refused_on {T} {U} few many f g before mid after why more nothing same (inl is) 
 refused_on few many f g before mid after why more nothing same (inr fails) =
     inr (subst (λ was. IsOutside many was after why) same (outside_more few many mid after why more fails))
 
--- Lemmas on the program's state after several queries in sequence.
+-- Lemmas on the program's state after several queries in sequence: the guarantees of a single query
+-- also hold for the sequence.
 
 module _ {B : Type 0} (ledger : B → Ledger) where
   pub unasked : (a : Office B) → Keeps ledger a a
@@ -115,7 +118,8 @@ module _ {B : Type 0} (ledger : B → Ledger) where
     zone = more.zone ∙ first.zone;
   }
 
-  -- If the program answered a query with `Ok`, then the program had not stopped.
+  -- If the program answered a query with `Ok`, then the program had not stopped: no earlier failure
+  -- had made it refuse all events.
   pub goes_on : {T : Type 0} (a b : Office B) (x : T) → OnlyAsks ledger a b (Ok x) → is_stopped a ≡ true → ⊥
   goes_on a b x asks stopped = let e = asks.stopped.1 stopped in cc e
 
@@ -134,8 +138,8 @@ module _ {B : Type 0} (ledger : B → Ledger) where
     zone = kept.zone;
   }
 
-  -- If memory runs out after successful queries, then the refusal `Memory` satisfies the guarantees
-  -- of a query.
+  -- If memory runs out after successful queries, then the refusal `Memory` (out of memory)
+  -- satisfies the guarantees of a query (the program's state is unchanged).
   pub without_memory : {U : Type 0} (a b : Office B) → (is_stopped a ≡ true → ⊥) → Keeps ledger a b
       → OnlyAsks {T = U} ledger a b (Err refusal.Memory)
   without_memory a b goes kept = record {

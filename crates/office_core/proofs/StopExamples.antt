@@ -28,13 +28,15 @@ span = record { function = HoldingRegisters; address = 40094; count = 2; some = 
 abbrev start : Event
 start = event.Command (command.StartPoll (record { device = Some inv; span = span }))
 
--- The history of the example: the device is added and connected.
+-- The history before the example's poll, whose timeout the store fails to record: the device is
+-- added and connected.
 abbrev connected : History
 connected = Fed 1000 (event.Connected (Some inv))
     ∷ Fed 1000 (event.Command (command.AddDevice (record { name = Some inv; unit = 1; timeout = 5; window = 1 })))
     ∷ Opened 0 ∷ []
 
--- The example's records after the start of the poll, and the record of the poll's timeout.
+-- In the example of a poll whose timeout the store fails to record: the records after the start of
+-- the poll, and the record of the poll's timeout.
 abbrev waiting : List Fact
 waiting = fact.Poll (record { number = 1; device = inv; unit = 1; at = 1898; id = 0; span = span })
     ∷ fact.Device (record { name = inv; unit = 1; timeout = 5; window = 1 }) ∷ []
@@ -50,8 +52,8 @@ is_ended : facts_of (Fed 1904 event.Tick ∷ Fed 1898 start ∷ connected) ≡ e
 unfolding frames frames_in rest rest_in is_garbled is_over is_closed stream next_id frames_at ending_at settled_by pending outcomes_at
 is_ended = refl
 
--- The events of the example. The start of the poll succeeds, and the timer event that should end
--- the poll fails with refusal 13 (store failed).
+-- The events of an example: the start of a poll succeeds, and the timer event that should end the
+-- poll fails with refusal 13 (store failed).
 abbrev fed : List Answered
 fed = record { at = 1898; event = start; result = Ok (answer.Started 1 1 1) }
     ∷ record { at = 1904; event = event.Tick; result = Err (refusal.Store store.Refused) } ∷ []
@@ -59,7 +61,8 @@ fed = record { at = 1898; event = start; result = Ok (answer.Started 1 1 1) }
 abbrev Lists : Type 0
 Lists = List (List Fact)
 
--- In the example, the start of the poll adds a record to the store.
+-- In the example of a poll whose timeout the store fails to record, the start of the poll adds a
+-- record to the store.
 no_less : facts_of (Fed 1898 start ∷ connected) ≡ facts_of connected → ⊥
 unfolding frames frames_in rest rest_in is_garbled is_over is_closed stream next_id frames_at ending_at settled_by pending outcomes_at
 no_less same = let e = ap length same in cc e
@@ -78,8 +81,8 @@ then_ended : (between after : Lists) → between ≡ waiting ∷ [] → LeftOnce
 then_ended between after is left =
     or_ended after (subst (λ (ls : Lists). LeftOnceFailed (Fed 1898 start ∷ connected) (Fed 1904 event.Tick) ls after) is left)
 
--- After a crash in the example, the poll is pending or its timeout is recorded. The store can have
--- no other list of records.
+-- In the example of a poll whose timeout the store fails to record, the poll is pending (without an
+-- outcome) or its timeout is recorded after a crash. The store can have no other list of records.
 waits_or_ended : (before after : Lists) → LeftInTurn connected fed before after
     → (after ≡ waiting ∷ []) ⊎ (after ≡ waiting ∷ ended ∷ [])
 waits_or_ended before after left =

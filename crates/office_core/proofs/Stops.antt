@@ -19,8 +19,8 @@ use Rattle.office_core.specs.Stopping.{AreOfEvents, AreOfBefore, EventsAreLeftWh
 abbrev Lists : Type 0
 Lists = List (List Fact)
 
--- True if the event failed, and `facts` are the earlier records together with those of this event.
--- The store may have these records after a crash.
+-- True if the event `e` failed, and `facts` are the records that the store would have if the event
+-- had been accepted. The store may have these records after a crash.
 record IsOfOne (past : History) (at : ℕ) (e : Event) (result : Result Answer Refusal) (facts : List Fact) : Type 0 where
   failed : is_failure result ≡ true
   stays : with_answer past at e result ≡ past

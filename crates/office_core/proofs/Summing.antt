@@ -33,8 +33,9 @@ use Rattle.office_core.specs.Asking.{ListsDays}
 use Rattle.office_core.specs.DaySums.{MayFollow, UnlessFailed, HasAdded, AddsRow, TakesShare, EndsAs}
 use Rattle.office_core.specs.Failing.{IsOutside}
 
--- If the energy of all of a list's interval rows can be added up, then each row may be added after
--- the earlier rows.
+-- Suppose that the energy of a list's interval rows can be added up by civil day. Then each row
+-- meets the precondition for adding it after the rows before it (`MayFollow`): its start is not
+-- earlier, and the total fits.
 may_follow : (done rest : List Share) (row : Share) → CanBeFolded (done ++ row ∷ rest) → MayFollow done row
 may_follow done rest row folds =
     let start : Share → ℕ = λ r. r.start in
@@ -78,16 +79,16 @@ add_all zone done (row ∷ rest) s after is folds added took =
     let all = add_all zone (done ++ row ∷ []) rest took.0 after (step.0 ∙ is) (subst CanBeFolded (sym same) folds) step.1 took.2 in
     (all.0, subst (HasAdded after) same all.1)
 
--- If a new sink for sums by civil day received interval rows, then it has added all of the rows, or
--- it has failed.
+-- If a new sink for sums by civil day received interval rows (energies by quarter hour), then it
+-- has added all of the rows, or it has failed.
 pub added_up : (fresh after : DaySink) (rows : List Share) → CanBeFolded rows → fresh.fault ≡ None → HasTaken fresh.zone [] fresh.fold
     → TakesAll TakesShare fresh rows after → (after.zone ≡ fresh.zone) × HasAdded after rows
 added_up fresh after rows folds works empty took =
     let P : Option DayFault → Type 0 = λ f. UnlessFailed f (HasTaken fresh.zone [] fresh.fold) in
     add_all fresh.zone [] rows fresh after refl folds (subst P (sym works) empty) took
 
--- If the sums by civil day may be extended by an interval row, then this row starts no earlier than
--- the latest added row.
+-- If the sums by civil day may be extended by an interval row (the energy of a quarter hour), then
+-- this row starts no earlier than the latest added row.
 after_latest : (rows : List Share) (latest : Option ℕ) (row : Share) → IsLatest rows latest → MayFollow rows row → unwrap_or latest 0 ≤ row.start
 after_latest rows None row at may = omega arith
 after_latest rows (Some start) row at may =
@@ -112,8 +113,8 @@ days_by (Some fault.Memory) old new zone rows fold (Err why) same added ends =
     subst (IsOutside (Unit {0}) old.failures new.failures) (sym ends) (inr (tt, same))
 days_by (Some fault.Zone) old new zone rows fold (Err why) same added ends = absurd added
 
--- If the energy of all interval rows can be added up, then the energy of the rows in a time span
--- can be added up.
+-- If the energy of a list's interval rows can be added up by civil day, then this also holds for
+-- its rows in a time span.
 folds_within : (span : Span) (rows : List Share) → CanBeFolded rows → CanBeFolded (rows_within span rows)
 folds_within All rows folds = folds
 folds_within (Between from till) rows folds =

@@ -40,8 +40,8 @@ accepted_decision past at e accepted =
     ap (λ kept. unless_kept (unless_refused (answer_of (slots_of past) (facts_of past) at e) (refusal_of past at e)) kept) accepted.new
     ∙ ap (unless_refused (answer_of (slots_of past) (facts_of past) at e)) accepted.right
 
--- If a property holds for the answers `Started` and `Done`, then it holds for the answer to each
--- accepted command.
+-- If a property holds for the answers `Started` (polls were started) and `Done` (any other
+-- command), then it holds for the answer to each accepted command.
 by_start : (So : Answer → Type 0) → ((n m k : ℕ) → So (answer.Started n m k)) → ((k : CommandKind) → So (answer.Done k))
     → (b : Bool) (n m k : ℕ) (kind : CommandKind) → So (cond b (answer.Started n m k) (answer.Done kind))
 by_start So started done true n m k kind = started n m k
@@ -85,8 +85,8 @@ unchanged_left old new past at e (Err why) keeps none = λ before may. (before, 
 pub refused_left : (old new : Ledger) (past : History) (at : ℕ) (e : Event) (why : Refusal) → KeepsFacts old new → Leaves old new (LeftByEvent past at e (Err why))
 refused_left old new past at e why keeps = λ before may. (before, left_by_refused past at e why before, keeps.left before may)
 
--- If the store fails, then the refusal with the store's cause is a correct report, and the store's
--- failure counter agrees with the report.
+-- If a call to the store fails, then the refusal that reports this failure satisfies `IsOutside`
+-- (the cause is not in the request). The failure counter has counted the failure.
 pub failed_outside : (T takes_memory : Type 0) (before after : Failures) (why : BooksFault) → FailuresAfterCalls {T = T} (Err why) before after → takes_memory
     → IsOutside takes_memory before after (as_refusal why)
 failed_outside T takes_memory before after (Store Refused) is takes = is
@@ -141,7 +141,7 @@ unsettling (event.Command c) number at slots device none = absurd (cc)
 unsettling (event.Asked asked) number at slots device none = absurd (cc)
 
 -- The answer to an accepted device event (not a command), such as a received chunk of bytes, is
--- `Noted`.
+-- `Noted` (the event was accepted).
 pub noted : (slots : List Slot) (facts : List Fact) (at : ℕ) (e : Event) → is_command e ≡ false → answer.Noted ≡ answer_of slots facts at e
 noted slots facts at (event.Connected given) device = refl
 noted slots facts at (event.Bytes given piece) device = refl
@@ -167,7 +167,7 @@ unnoted number at (event.Command c) slots facts asks = refl
 unnoted number at (event.Asked asked) slots facts asks = refl
 
 -- If no call to the store fails, then an accepted event has the answer, the records and the
--- notifications that the definitions require.
+-- notifications that the specification requires.
 pub taken : {B T : Type 0} (ledger : B → Ledger) (past : History) (at : ℕ) (e : Event) (old new : Office B) (x : T) (given : Answer)
     → MayTake ledger past e old → IsAccepted past at e → (ledger new.books).is_clean
     → Moves (ledger old.books) (ledger new.books) (facts_of past) (facts_of (Fed at e ∷ past)) (Ok x)
@@ -197,7 +197,8 @@ taken ledger past at e old new x given may accepted clean moves is latest slots 
       reported = record { notes = notes ∙ sym reported; outgoing = outgoing ∙ sym sent };
     }
 
--- If a call to the store fails, then the program reports the failure correctly.
+-- If a call to the store fails during an accepted event, then the program's answer is the refusal
+-- that reports this failure, as the contract `Takes` requires.
 pub not_taken : {B T : Type 0} (ledger : B → Ledger) (past : History) (at : ℕ) (e : Event) (old new : Office B) (fault : BooksFault) (why : Refusal)
     → MayTake ledger past e old → IsAccepted past at e → (ledger new.books).is_clean
     → Moves {T = T} (ledger old.books) (ledger new.books) (facts_of past) (facts_of (Fed at e ∷ past)) (Err fault)

@@ -42,7 +42,7 @@ answered (Err why) = Err (as_refusal why)
 
 -- True if the result of a query for one row is the row, `NotFound` because the row does not exist,
 -- or a correct report. A report says that the store failed, memory ran out or the program has
--- stopped.
+-- stopped (it refuses everything).
 abbrev pub IsFound : {T : Type 0} → (takes_memory : Type 0) → Option T → (before after : Failures)
     → Result T Refusal → Type 0
 IsFound takes_memory found before after result =
@@ -64,14 +64,15 @@ abbrev pub intervals_of : List Fact → (meter : Option (List ℕ)) → Option (
 intervals_of facts meter =
     option_map (rows_of_opening facts) (option_and_then (opening_of facts) meter)
 
--- True if the result of a query for one row is correct, and memory outside the store did not run
--- out.
+-- True if the result of a query for one row is the row, `NotFound` or a correct report of a
+-- failure, and memory outside the store did not run out.
 abbrev pub IsRowFound : {T : Type 0} → Option T → (before after : Failures) → Result T Refusal
     → Type 0
 IsRowFound found before after result = IsFound ⊥ found before after result
 
--- The guarantees of a query that passes rows to a sink, a visitor of rows. On `Ok` the sink got all
--- rows, and on an error a prefix of the rows. The result is `NotFound` if the rows do not exist.
+-- The guarantees of a query that passes rows to a sink (a visitor of rows). On `Ok` the sink got
+-- all rows, and on an error a prefix of the rows. The result is `NotFound` if `rows` is `None` (the
+-- records have no such rows).
 pub record HandsRows {S T : Type 0} (takes : S → T → S → Type 0) (rows : Option (List T))
     (before after : Failures) (from to : S) (result : Result (Unit {0}) Refusal) : Type 0 where
   pub answer : IsRowFound (is_there rows) before after result
@@ -79,13 +80,14 @@ pub record HandsRows {S T : Type 0} (takes : S → T → S → Type 0) (rows : O
   pub whole : OnOk result (TakesAll takes from (rows_in rows) to)
 
 -- True if a list of days has the energy by civil day of the accounting register (a named energy
--- counter) with this name. False if the name is invalid (`None`).
+-- counter) with the given name. False if the name is invalid (`None`).
 abbrev pub AreDaysNamed : Zone → List Fact → (register : Option (List ℕ)) → List DayAccount → Type 0
 AreDaysNamed zone facts None days = ⊥
 AreDaysNamed zone facts (Some register) days = AreDaysOf zone facts register days
 
--- True if the sink got the days of an accounting register (a named energy counter) in order. The
--- days are those on which a quarter hour with energy begins, and are fewer than 2^64.
+-- True if the sink (a visitor of days) got the days of an accounting register (a named energy
+-- counter) in order. The days are those on which a quarter hour with energy begins, and are fewer
+-- than 2^64.
 pub record TakesDays {S : Type 0} (takes : S → DayTotal → S → Type 0) (zone : Zone)
     (facts : List Fact) (register : Option (List ℕ)) (from to : S) : Type 0 where
   pub days : List DayTotal
@@ -104,32 +106,33 @@ pub record HandsDays {S : Type 0} (takes : S → DayTotal → S → Type 0) (zon
   pub none : OnErr result (to ≡ from)
 
 -- States that, if every wrong result of the store was detected, the result of a query for one row
--- agrees with the store's records.
+-- is the one that follows from the store's records.
 abbrev pub FoundIn : {T : Type 0} → (old new : Ledger) → Result T Refusal → (List Fact → Option T)
     → Type 0
 FoundIn old new result row =
     (known : List Fact) → old.holds known → new.is_clean
     → IsRowFound (row known) old.failures new.failures result
 
--- States that, if every wrong result of the store was detected, the rows of a query agree with the
--- store's records.
+-- States that, if every wrong result of the store was detected, the rows of a query are those that
+-- follow from the store's records.
 abbrev pub RowsIn : {S T : Type 0} → (S → T → S → Type 0) → (old new : Ledger) → (from to : S)
     → Result (Unit {0}) Refusal → (List Fact → Option (List T)) → Type 0
 RowsIn takes old new from to result rows =
     (known : List Fact) → old.holds known → new.is_clean
     → HandsRows takes (rows known) old.failures new.failures from to result
 
--- States that the days of a query agree with the store's records if two conditions hold. The
--- records are valid (`AreLawful`), and every wrong result of the store was detected.
+-- States that the days of a query are those that follow from the store's records if two conditions
+-- hold. The records are lawful (the rules for adding records accept each one), and every wrong
+-- result of the store was detected.
 abbrev pub DaysIn : {S : Type 0} → (S → DayTotal → S → Type 0) → (old new : Ledger) → (from to : S)
     → Result (Unit {0}) Refusal → (register : Option (List ℕ)) → Type 0
 DaysIn takes old new from to result register =
     (known : List Fact) → AreLawful known → old.holds known → new.is_clean
     → HandsDays takes old.zone known register old.failures new.failures from to result
 
--- States that the result is the list of an accounting register's days in a time span, or a failure,
--- if two conditions hold. The records are valid (`AreLawful`), and every wrong result of the store
--- was detected.
+-- States that the result is the list of an accounting register's days in a
+-- time span, or a failure, if two conditions hold. The records are lawful (the rules for adding
+-- records accept each one), and every wrong result of the store was detected.
 abbrev pub ListsDays : (old new : Ledger) → (register : List ℕ) → Span
     → Result (Vec DayTotal Global) Refusal → Type 0
 ListsDays old new register span result =
@@ -140,13 +143,15 @@ ListsDays old new register span result =
     × (new.failures ≡ old.failures))
     (IsOutside (Unit {0}) old.failures new.failures)
 
--- True if the answer to a query for one row agrees with the records of all accepted events.
+-- True if the answer to a query for one row is the one that follows from the records of all
+-- accepted events.
 abbrev pub ReportsRow : {B T : Type 0} → (B → Ledger) → (old new : Office B) → Result T Refusal
     → (List Fact → Option T) → Type 0
 ReportsRow ledger old new result row = After ledger old new (λ past.
     IsRowFound (row (facts_of past)) (failures_of ledger old) (failures_of ledger new) result)
 
--- True if the rows that a query returns agree with the records of all accepted events.
+-- True if the rows that a query returns are those that follow from the records of all accepted
+-- events.
 abbrev pub ReportsRows : {B S T : Type 0} → (S → T → S → Type 0) → (B → Ledger)
     → (old new : Office B) → (from to : S) → Result (Unit {0}) Refusal
     → (List Fact → Option (List T)) → Type 0
@@ -154,7 +159,8 @@ ReportsRows takes ledger old new from to result rows = After ledger old new (λ 
     HandsRows takes (rows (facts_of past))
     (failures_of ledger old) (failures_of ledger new) from to result)
 
--- True if the days that a query returns agree with the records of all accepted events.
+-- True if the days that a query returns are those that follow from the records of all accepted
+-- events.
 abbrev pub ReportsDays : {B S : Type 0} → (S → DayTotal → S → Type 0) → (B → Ledger)
     → (old new : Office B) → (from to : S) → Result (Unit {0}) Refusal
     → (register : Option (List ℕ)) → Type 0
@@ -162,19 +168,19 @@ ReportsDays takes ledger old new from to result register = After ledger old new 
     HandsDays takes (ledger (books_in old)).zone (facts_of past) register
     (failures_of ledger old) (failures_of ledger new) from to result)
 
--- True if passing some list of rows in order changes the sink from `from` to `to`. If the store
--- returned wrong results, the rows may be wrong.
+-- True if passing some list of rows in order changes the sink (a visitor of rows) from `from` to
+-- `to`. If the store returned wrong results, the rows may be wrong.
 abbrev pub TakesRows : {S T : Type 0} → (S → T → S → Type 0) → (from to : S) → Type 0
 TakesRows {S} {T} takes from to = (rows : List T) × TakesAll takes from rows to
 
--- The failure counter after a query that failed with this cause. If a quarter hour without a civil
--- day is the cause, the failure is not counted. Each other failure is counted once.
+-- The failure counter after a query that failed with the given cause. If a quarter hour without a
+-- civil day is the cause, the failure is not counted. Each other failure is counted once.
 abbrev pub CountsCause : (before after : Failures) → StoreCause → Type 0
 CountsCause before after store.NoDay = after ≡ before
 CountsCause before after why = StoreFailed why before after
 
--- The failure counter after a refused query. The reason is `NotFound`, a failure of the store, that
--- memory ran out, or that the program has stopped.
+-- The failure counter after a refused query. The reason for the refusal is `NotFound`, a failure of
+-- the store, that memory ran out, or that the program has stopped (it refuses everything).
 --
 -- A failure of the store is counted once, whatever the store returned. Running out of memory is not
 -- counted, but may be recorded as last failure.
@@ -203,7 +209,7 @@ pub record Asks {T : Type 0} (old new : Ledger) (result : Result T Refusal) : Ty
 
 -- The effect of a query on the program's state. The state, the notifications, the bytes to send and
 -- the records that may remain after a crash are unchanged. The query is refused as `Stopped` if and
--- only if the program had stopped earlier, and no query stops the program.
+-- only if the program refused everything before. No query makes the program refuse everything.
 pub record OnlyAsks {B T : Type 0} (ledger : B → Ledger) (old new : Office B)
     (result : Result T Refusal) : Type 0 where
   pub stands : (past : History) → Stands ledger past old → Stands ledger past new

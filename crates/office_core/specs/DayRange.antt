@@ -1,4 +1,5 @@
--- The civil days of an accounting register (a named energy counter) within a range of days.
+-- The energy of an accounting register (a named energy counter) on each civil day of a range of
+-- days.
 use Rattle.std.specs.Prelude.{◌≡◌, ℕ, ◌*◌, ◌<◌, ◌^◌, ℤ, pos, negsuc, ◌+ℤ◌, ◌-ℤ◌, length, List, map, filter, Option, Some, None, Result, MatchResult, OnOk, OnErr}
 use Rattle.std.specs.Option.{option_and_then}
 use Rattle.std.specs.declared.alloc.Global.{Global}
@@ -30,8 +31,8 @@ use Rattle.office_core.specs.Taking.{failures_of}
 abbrev pub accounts_within : DayRange → List DayAccount → List DayAccount
 accounts_within range accounts = filter (λ account. has_day range account.day) accounts
 
--- The start of the UTC day with this day number, in seconds since 1970-01-01 UTC. For a day before
--- 1970, the start is 0.
+-- The start of the UTC day with the given day number, in seconds since 1970-01-01 UTC. For a day
+-- before 1970, the start is 0.
 abbrev pub utc_start : ℤ → ℕ
 utc_start (pos n) = n * 86_400
 utc_start (negsuc n) = 0
@@ -39,14 +40,14 @@ utc_start (negsuc n) = 0
 -- The time span from two days before `from` to two days after `till`, in UTC. No UTC offset exceeds
 -- two days. Therefore the span contains the days of the range in every time zone.
 --
--- If an end of the range is open, the span contains all times.
+-- If the range of days has no first day or no end, then its time span contains all times.
 abbrev pub span_between : (from till : Option Date) → Span
 span_between (Some from) (Some till) =
     span.Between (utc_start (epoch_day from -ℤ pos 2)) (utc_start (epoch_day till +ℤ pos 2))
 span_between (Some from) None = span.All
 span_between None till = span.All
 
--- The time span that contains all days of the range in every time zone.
+-- The time span that contains all civil days of the given range of days in every time zone.
 abbrev pub span_of : DayRange → Span
 span_of range = span_between range.from range.till
 
@@ -58,8 +59,8 @@ pub record AreDaysWithin (zone : Zone) (facts : List Fact) (register : Option (L
   pub are : AreDaysNamed zone facts register all
   pub asked : days ≡ accounts_within range all
 
--- True if the sink got the accounting register's days in the range, in order. The days are fewer
--- than 2^64.
+-- True if the sink (a visitor of days) got the accounting register's days
+-- in the range, in order. The days are fewer than 2^64.
 pub record TakesDaysWithin {S : Type 0} (takes : S → DayTotal → S → Type 0) (zone : Zone)
     (facts : List Fact) (register : Option (List ℕ)) (range : DayRange) (before after : S) :
     Type 0 where
@@ -68,9 +69,9 @@ pub record TakesDaysWithin {S : Type 0} (takes : S → DayTotal → S → Type 0
   pub few : length days < 2 ^ 64
   pub took : TakesAll takes before days after
 
--- The guarantees of a query that passes the days of a range to a sink. The sink got all of these
--- days on `Ok` and none on an error. Memory outside the store is needed only if the register
--- exists.
+-- The guarantees of a query that passes the days of a range to a sink (a visitor of days). The sink
+-- got all of these days on `Ok` and none on an error. Memory outside the store is needed only if
+-- the register exists.
 pub record HandsDaysWithin {S : Type 0} (takes : S → DayTotal → S → Type 0) (zone : Zone)
     (facts : List Fact) (register : Option (List ℕ)) (range : DayRange) (old new : Failures)
     (before after : S) (result : Result (Unit {0}) Refusal) : Type 0 where
@@ -79,9 +80,9 @@ pub record HandsDaysWithin {S : Type 0} (takes : S → DayTotal → S → Type 0
   pub whole : OnOk result (TakesDaysWithin takes zone facts register range before after)
   pub none : OnErr result (after ≡ before)
 
--- States that the days that a query for a range of days returns agree with the store's records, if
--- two conditions hold. The records are valid (`AreLawful`), and every wrong result of the store was
--- detected.
+-- States that the days that a query for a range of days returns are those that follow from the
+-- store's records, if two conditions hold. The records are lawful (the rules for adding records
+-- accept each one), and every wrong result of the store was detected.
 abbrev pub DaysWithinIn : {S : Type 0} → (S → DayTotal → S → Type 0) → (old new : Ledger)
     → (before after : S) → Result (Unit {0}) Refusal → (register : Option (List ℕ))
     → DayRange → Type 0
@@ -90,9 +91,9 @@ DaysWithinIn takes old new before after result register range =
     → HandsDaysWithin takes old.zone known register range old.failures new.failures
     before after result
 
--- States that the result is the list of an accounting register's days in the range, or a failure,
--- if two conditions hold. The records are valid (`AreLawful`), and every wrong result of the store
--- was detected.
+-- States that the result is the list of an accounting register's days in
+-- the range, or a failure, if two conditions hold. The records are lawful (the rules for adding
+-- records accept each one), and every wrong result of the store was detected.
 abbrev pub ListsDaysWithin : (old new : Ledger) → (register : List ℕ) → DayRange
     → Result (Vec DayTotal Global) Refusal → Type 0
 ListsDaysWithin old new register range result =
@@ -102,8 +103,8 @@ ListsDaysWithin old new register range result =
     × (new.failures ≡ old.failures))
     (IsOutside (Unit {0}) old.failures new.failures)
 
--- True if the days that a query for a range of days returns agree with the records of all accepted
--- events.
+-- True if the days that a query for a range of days returns are those that follow from the records
+-- of all accepted events.
 abbrev pub ReportsDaysWithin : {B S : Type 0} → (S → DayTotal → S → Type 0) → (B → Ledger)
     → (old new : Office B) → (before after : S) → Result (Unit {0}) Refusal
     → (register : Option (List ℕ)) → DayRange → Type 0

@@ -1,5 +1,5 @@
--- The model of a sink that adds up interval rows (energy by quarter hour) by civil day. A sink
--- receives the rows of a query one by one.
+-- The model of a sink (a consumer of rows) that adds up interval rows (energy by quarter hour) by
+-- civil day. The sink receives the rows of a query one by one.
 use Rattle.std.specs.Prelude.{◌≡◌, ◌+◌, ◌≤◌, ◌<◌, ◌^◌, List, [], ◌∷◌, ◌++◌, map, Option, Some, None, MatchOption, Result, Ok, Err, All}
 use Rattle.std.specs.declared.alloc.Global.{Global}
 use Rattle.std.specs.declared.vec.Vec.{Vec}
@@ -30,20 +30,20 @@ UnlessFailed None P = P
 UnlessFailed (Some fault.Memory) P = Unit {0}
 UnlessFailed (Some fault.Zone) P = ⊥
 
--- True if the sums by civil day contain exactly these interval rows (energy by quarter hour), or
--- memory ran out.
+-- True if the sums by civil day contain exactly the given interval rows (energy by quarter hour),
+-- or memory ran out.
 abbrev pub HasAdded : DaySink → List Share → Type 0
 HasAdded sink rows = UnlessFailed sink.fault (HasTaken sink.zone rows sink.fold)
 
--- The effect of an interval row on sums by civil day, if the row may be added. The row is added, or
--- memory runs out. The time zone stays the same.
+-- The effect of an interval row (the energy of a quarter hour) on sums by civil day, if the row may
+-- be added. The row is added, or memory runs out. The time zone stays the same.
 pub record AddsRow (old : DaySink) (row : Share) (new : DaySink) : Type 0 where
   pub zone : new.zone ≡ old.zone
   pub added : (rows : List Share) → HasTaken old.zone rows old.fold → MayFollow rows row
       → HasAdded new (rows ++ row ∷ [])
 
--- The effect of any interval row on sums by civil day. The row is added, or ignored after an
--- earlier failure.
+-- The effect of any interval row (the energy of a quarter hour) on sums by civil day. The row is
+-- added, or ignored after an earlier failure.
 abbrev pub TakesShare : DaySink → Share → DaySink → Type 0
 TakesShare old row new = MatchOption old.fault (AddsRow old row new) (λ fault. new ≡ old)
 
@@ -53,8 +53,8 @@ abbrev pub as_refusal : DayFault → Refusal
 as_refusal fault.Zone = refusal.Store store.NoDay
 as_refusal fault.Memory = refusal.Memory
 
--- True if the result is the list of days with these amounts of energy, or the refusal that reports
--- why the sums failed.
+-- True if the result is the list of days with the given amounts of energy, or the refusal that
+-- reports why the sums by civil day failed.
 abbrev pub EndsAs : Option DayFault → List DayAccount → Result (Vec DayTotal Global) Refusal
     → Type 0
 EndsAs None accounts (Ok days) = map account_of days.items ≡ accounts

@@ -21,8 +21,9 @@ abbrev pub Decides : History → (at : ℕ) → Event → Option (Result Answer 
 Decides past at e None = IsAccepted past at e
 Decides past at e (Some given) = given ≡ decision_of past at e
 
--- States that, if every wrong result of the store was detected, the result is the correct decision
--- on the event. The program decides from the devices' connections and the store.
+-- States that, if every wrong result of the store was detected, the result is the decision on the
+-- event that the accepted events require. The program decides from the devices' connections and the
+-- store.
 abbrev pub Decided : (old new : Ledger) → List Slot → (latest at : ℕ) → Event
     → Result (Option (Result Answer Refusal)) BooksFault → Type 0
 Decided old new kept latest at e result =

@@ -1,4 +1,5 @@
--- A run of events: the state after the run, the answer to each event, and the final records.
+-- A run of the event engine over a list of events: the state after the run, the answer to each
+-- event, and the store's records at the end.
 use Rattle.std.specs.Prelude.{◌≡◌, ◌⊎◌, ◌↔◌, ◌||◌, ℕ, Bool, true, false}
 use Rattle.std.specs.Prelude.{List, [], ◌∷◌, length, Result, Err, IfOk, IfErr, All}
 use Rattle.office_events.specs.declared.answers.Answer.{Answer}
@@ -37,7 +38,7 @@ in_turn (fed ∷ events) (result ∷ results) =
 abbrev pub events_of : {B : Type 0} → List (ℕ × Event) → Run B → List Answered
 events_of events run = in_turn events run.results.items
 
--- A history, extended by those of the answered events that were accepted.
+-- A history of accepted events, extended by those of the answered events that were accepted.
 abbrev pub history_after : History → List Answered → History
 history_after past [] = past
 history_after past (fed ∷ later) =
@@ -48,13 +49,14 @@ history_after past (fed ∷ later) =
 abbrev pub accepted_by : {B : Type 0} → History → (opened : ℕ) → List (ℕ × Event) → Run B → History
 accepted_by past opened events run = history_after (Opened opened ∷ past) (events_of events run)
 
--- True if the answer to the event is correct, or reports that the store or memory failed. A device
--- event that ends no poll never fails.
+-- True if the answer to the event is the one that the accepted events require, or reports that the
+-- store or memory failed. A device event that ends no poll never fails.
 pub record IsAnswered (past : History) (before after : Failures) (fed : Answered) : Type 0 where
   pub answer : IsAnswer past fed.at fed.event before after fed.result
   pub quiet : SettlesNothing past fed.at fed.event → is_failure fed.result ≡ false
 
--- True if each event has the correct answer, given the history before it.
+-- True if each event has the answer that the accepted events before it require, or an answer that
+-- reports a failure.
 abbrev pub AreAnswered : History → (before after : Failures) → List Answered → Type 0
 AreAnswered past before after [] = after ≡ before
 AreAnswered past before after (fed ∷ later) =
@@ -70,30 +72,31 @@ ReportsOfLast past (fed ∷ next ∷ later) office =
     ReportsOfLast (with_answer past fed.at fed.event fed.result) (next ∷ later) office
 
 -- True if exactly the events after the program had stopped were refused with `Stopped`. The program
--- stops if an event that may end polls fails.
+-- stops (refuses all later events) if an event that may end polls fails.
 abbrev pub StopsInTurn : (before after : Bool) → List Answered → Type 0
 StopsInTurn before after [] = after ≡ before
 StopsInTurn before after (fed ∷ later) =
     ((fed.result ≡ Err refusal.Stopped) ↔ (before ≡ true))
     × StopsInTurn (before || stops fed.event fed.result) after later
 
--- True if the failure counter changes with each answer as required: each failure of the store is
--- counted once.
+-- True if the failure counter changes with each answer of the program as the answer requires: each
+-- failure of the store is counted once.
 abbrev pub CountInTurn : (before after : Failures) → List Answered → Type 0
 CountInTurn before after [] = after ≡ before
 CountInTurn before after (fed ∷ later) =
     (between : Failures) × Counts before between fed.result × CountInTurn between after later
 
--- True if, with each answer to an event, the records that may remain after a crash change as
--- `LeftByEvent` states.
+-- True if the answered events, one after another, change `before` to `after` as `LeftByEvent`
+-- requires for each answer. `before` and `after` are the lists of records that a crash could leave
+-- in the store.
 abbrev pub LeftInTurn : History → List Answered → (before after : List (List Fact)) → Type 0
 LeftInTurn past [] before after = after ≡ before
 LeftInTurn past (fed ∷ later) before after =
     (between : List (List Fact)) × LeftByEvent past fed.at fed.event fed.result before between
     × LeftInTurn (with_answer past fed.at fed.event fed.result) later between after
 
--- States how a run of events changes the records that may remain after a crash. The opening of the
--- store changes these records as `LeftOnceDone` states, and each answer as `LeftByEvent` states.
+-- States how a run of events changes the lists of records that a crash may leave. The opening of
+-- the store changes these lists as an accepted opening does, and each event as its answer requires.
 abbrev pub LeftByRun : History → (opened : ℕ) → List Answered → (before after : List (List Fact))
     → Type 0
 LeftByRun past opened fed before after =
@@ -114,8 +117,9 @@ pub record StandsAfter {B : Type 0} (ledger : B → Ledger)
   pub office : Stands ledger (history_after begun (events_of events run)) run.office
   pub reported : ReportsOfLast begun (events_of events run) run.office
 
--- True if a run that could not start returns the store with the reason. Either memory for the
--- answers ran out and the store is unchanged, or the opening of the store was refused or failed.
+-- True if a run of events that could not start returns the store with the reason. Either memory for
+-- the answers ran out and the store is unchanged, or the opening of the store was refused or
+-- failed.
 abbrev pub HandsBack : {B : Type 0} → (B → Ledger) → (books : B) → (opened : ℕ) → History
     → B × Refusal → Type 0
 HandsBack ledger books opened past back =
@@ -130,32 +134,34 @@ LeavesInTurn ledger books opened events past run =
     Leaves (ledger books) (ledger (books_in run.office))
     (LeftByRun past opened (events_of events run))
 
--- True if each event of a run has the correct answer, and each answer changes the failure counter
--- correctly.
+-- True if each event of a run has the answer that the accepted events before it require, and each
+-- answer changes the failure counter as the answer requires.
 abbrev pub AnswersEach : {B : Type 0} → (B → Ledger) → (books : B)
     → History → List (ℕ × Event) → Run B → Type 0
 AnswersEach ledger books begun events run =
     AreAnswered begun (ledger books).failures
     (ledger (books_in run.office)).failures (events_of events run)
 
--- True if the store has the records of the history, and each meter's recorded energy agrees with
--- its readings. Voided (cancelled) entries have no effect. If a meter has correct readings and is
--- read often enough, its recorded energy in each quarter hour is its true energy.
+-- True if the store has the records of the history, and each meter's recorded energy is its last
+-- reading less its first, corrected for rollovers, resets and rescales. Voided (cancelled) entries
+-- have no effect. If a meter's readings show its true counts, and its counter can't make a full
+-- turn between two readings, its recorded energy in each quarter hour is the true energy.
 pub record BooksRecord (books : Ledger) (history : History) : Type 0 where
   pub accepted : IsPast history
   pub holds : books.holds (facts_of history)
   pub headline : HeadlineHolds history
   pub laws : AreTrue history
 
--- True if after a run of events the store has the records of all accepted events, and each meter's
--- recorded energy agrees with its readings.
+-- True if after a run of events the store has the records of all accepted events. Each meter's
+-- recorded energy is then its last reading less its first, corrected for rollovers, resets and
+-- rescales.
 abbrev pub RecordsAccepted : {B : Type 0} → (B → Ledger) → (opened : ℕ) → List (ℕ × Event)
     → History → Run B → Type 0
 RecordsAccepted ledger opened events past run =
     BooksRecord (ledger (books_in run.office)) (accepted_by past opened events run)
 
--- States that, if every wrong result of the store was detected, the store has the records of all
--- accepted events after a run of events.
+-- States that, after a sequence of events was processed, the store has the records of all accepted
+-- events. The statement applies if every wrong result of the store was detected.
 abbrev pub RecordsIfClean : {B : Type 0} → (B → Ledger) → (opened : ℕ) → List (ℕ × Event)
     → History → Run B → Type 0
 RecordsIfClean ledger opened events past run =
@@ -169,10 +175,10 @@ IsCleanOnlyIfWas ledger books run =
 
 -- The guarantees of every run of events, whatever the store returned. Each event has one answer,
 -- and no event is refused because a quarter hour has no civil day. The answers determine whether
--- the program has stopped, and the failure counter.
+-- the program refuses all later events, and the failure counter.
 --
--- If the store is clean (every wrong result was detected) after the run, it was clean before the
--- run. The time zone stays the same.
+-- If the store is clean (every wrong result was detected) after the run of events, it was clean
+-- before the run. The run does not change the store's time zone.
 pub record EndsInTurn {B : Type 0} (ledger : B → Ledger)
     (books : B) (events : List (ℕ × Event)) (run : Run B) : Type 0 where
   pub each : length run.results.items ≡ length events

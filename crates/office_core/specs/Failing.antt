@@ -13,8 +13,8 @@ use Rattle.office_books.specs.declared.failures.Failures.{Failures}
 use Rattle.office_books.specs.Faults.{failed_by}
 use Rattle.office_core.specs.Events.{may_settle}
 
--- True if the store failed with this cause and its failure counter was increased by one. `NoDay` (a
--- quarter hour without a civil day) is not a failure of the store.
+-- True if the store failed with the given cause and its failure counter was increased by one.
+-- `NoDay` (a quarter hour without a civil day) is not a failure of the store.
 abbrev pub StoreFailed : StoreCause → (before after : Failures) → Type 0
 StoreFailed store.Refused before after = after ≡ failed_by (fault.Store kind.Refused) before
 StoreFailed store.Damaged before after = after ≡ failed_by (fault.Store kind.Damaged) before
@@ -27,7 +27,7 @@ MemoryLacked takes_memory before after =
     (after ≡ failed_by fault.Memory before) ⊎ (takes_memory × (after ≡ before))
 
 -- True if the cause of the refusal is not in the request. The cause is that the store failed, that
--- memory ran out, or that the program has stopped.
+-- memory ran out, or that the program has stopped (it refuses everything).
 abbrev pub IsOutside : (takes_memory : Type 0) → (before after : Failures) → Refusal → Type 0
 IsOutside takes_memory before after (refusal.Store why) = StoreFailed why before after
 IsOutside takes_memory before after refusal.Memory = MemoryLacked takes_memory before after
@@ -35,7 +35,7 @@ IsOutside takes_memory before after refusal.Stopped = after ≡ before
 IsOutside takes_memory before after _ = ⊥
 
 -- True if the result is a refusal whose cause is not in the request: the store failed, memory ran
--- out, or the program has stopped.
+-- out, or the program has stopped (it refuses everything).
 abbrev pub FailsOutside : {T : Type 0} → (takes_memory : Type 0) → (before after : Failures)
     → Result T Refusal → Type 0
 FailsOutside takes_memory before after (Ok x) = ⊥
@@ -51,7 +51,8 @@ CountsFailures before after (Err refusal.Memory) = MemoryLacked (Unit {0}) befor
 CountsFailures before after (Err _) = after ≡ before
 
 -- The store's failure counter after an event was refused with a cause of the store. The failure was
--- counted once. `Refused` may also mean that all poll numbers are used, which is not counted.
+-- counted once. The cause `Refused` may also mean that all poll numbers are used, which is not
+-- counted.
 abbrev pub StoreCounts : (before after : Failures) → StoreCause → Type 0
 StoreCounts before after store.Refused =
     StoreFailed store.Refused before after ⊎ (after ≡ before)
@@ -66,12 +67,13 @@ Counts before after (Err (refusal.Store why)) = StoreCounts before after why
 Counts before after (Err refusal.Memory) = MemoryLacked (Unit {0}) before after
 Counts before after (Err _) = after ≡ before
 
--- True if the refusal is not `Stopped`, which reports that the program has stopped.
+-- True if the refusal is not `Stopped`, which reports that the program refuses everything after an
+-- earlier failure.
 abbrev pub IsNotStopped : Refusal → Type 0
 IsNotStopped refusal.Stopped = ⊥
 IsNotStopped _ = Unit {0}
 
--- True if the cause of a failure is another than a quarter hour without a civil day.
+-- True if the cause of a failure is not a quarter hour without a civil day.
 abbrev pub IsOfStore : StoreCause → Type 0
 IsOfStore store.NoDay = ⊥
 IsOfStore _ = Unit {0}
@@ -88,7 +90,7 @@ is_failure (Err (refusal.Store why)) = true
 is_failure (Err refusal.Memory) = true
 is_failure (Err _) = false
 
--- True if the event stops the program: the event may end polls, and its answer reports a failure.
--- Some Modbus sessions may then be updated and others not.
+-- True if the event stops the program, which then refuses all events: the event may end polls, and
+-- its answer reports a failure. Some Modbus sessions may then be updated and others not.
 abbrev pub stops : Event → Result Answer Refusal → Bool
 stops e result = may_settle e && is_failure result

@@ -1,12 +1,14 @@
--- The first promise of the project, word for word:
+-- The first promise of the project, about the outcomes of polls and the recorded energy of meters,
+-- word for word:
 --
 --   "Over every list of device bytes, silences and office commands, each started poll has exactly
 --   one recorded outcome or is pending, and each installed meter's booked energy over all intervals
 --   is its last accepted reading less its first, plus one full range for each recorded rollover and
 --   the recorded differences of its resets and rescalings."
 --
--- The definitions below state this promise for a history of accepted events. Energy is in mWh.
--- Voided (cancelled) readings are not counted.
+-- For a history of accepted events, the definitions below state two promises. Each started poll has
+-- one outcome or is pending. Each meter's recorded energy, in mWh, follows from its readings,
+-- rollovers, resets and changes of scale. Voided (cancelled) readings are not counted.
 use Rattle.std.specs.Prelude.{◌≡◌, ℕ, ◌+◌, ◌*◌, ℤ, pos, ◌+ℤ◌, ◌-ℤ◌, List, [], ◌∷◌, All, sum_by}
 use Rattle.energy_core.specs.declared.entries.Last.{Last}
 use Rattle.energy_core.specs.declared.entries.Entry.{Entry}
@@ -31,7 +33,7 @@ abbrev pub first_reading : Opening → Last
 first_reading meter = opened meter
 
 -- The meter's "last accepted reading": the value that the counter showed, or was set to, at the
--- latest valid entry.
+-- latest meter entry that is not voided (cancelled).
 abbrev pub last_reading : List Fact → Opening → Last
 last_reading facts meter = last_of (first_reading meter) (entries_of facts meter)
 
@@ -57,8 +59,9 @@ differences first (entry.Change at before after sf ∷ earlier) =
     pos (before * unit_of (last_of first earlier).sf) -ℤ pos (after * unit_of sf)
     +ℤ differences first earlier
 
--- True if the promise holds for one meter. The meter's recorded energy is its last reading minus
--- its first, plus the full ranges of rollovers and the differences at resets and rescalings.
+-- True if the project's promise about recorded energy holds for one meter. The meter's recorded
+-- energy is its last reading minus its first, plus the full ranges of rollovers and the differences
+-- at resets and rescalings.
 abbrev pub AddsUp : List Fact → Opening → Type 0
 AddsUp facts meter =
     pos (energy_booked facts meter)
@@ -66,8 +69,9 @@ AddsUp facts meter =
     +ℤ pos (full_ranges meter.range (first_reading meter) (entries_of facts meter))
     +ℤ differences (first_reading meter) (entries_of facts meter)
 
--- True if the complete promise holds. Each started poll has exactly one recorded outcome or is
--- pending, and the recorded energy of each installed meter agrees with its readings.
+-- True if the complete promise of the project holds. Each started poll has exactly one recorded
+-- outcome or is pending. The recorded energy of each installed meter is its last reading less its
+-- first, corrected for rollovers, resets and rescalings.
 pub record HeadlineHolds (history : History) : Type 0 where
   pub polls : All (EndsOnce history) (polls_in (facts_of history))
   pub meters : All (AddsUp (facts_of history)) (openings_in (facts_of history))

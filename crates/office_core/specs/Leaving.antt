@@ -19,8 +19,8 @@ pub record IsOneMore (past : History) (facts : List Fact) : Type 0 where
   pub same : facts_of earlier ≡ facts_of past
   pub are : facts ≡ facts_of (next ∷ earlier)
 
--- True if the store may have these records after a crash: the records of the accepted events, or
--- the records after one more event or opening of the store.
+-- True if the store may have the given records after a crash: the records of the accepted events,
+-- or the records after one more event or opening of the store.
 abbrev pub MayBeLeft : History → List Fact → Type 0
 MayBeLeft past facts = (facts ≡ facts_of past) ⊎ IsOneMore past facts
 
@@ -43,24 +43,24 @@ pub record BooksStand (ledger : Ledger) (past : History) : Type 0 where
 -- `before` has the states that a crash before a call may leave. `after` has those that a crash
 -- after the call may leave.
 
--- The effect of an accepted event or opening on the records that may remain after a crash. The
--- store then has exactly the earlier records and those of this event. If the event added no record,
--- a crash may leave the same records as before.
+-- The effect of an accepted event or opening of the store on the records that a crash may leave.
+-- The store then has exactly the earlier records and those of this event. If the event added no
+-- record, a crash may leave the same records as before the event.
 abbrev pub LeftOnceDone : History → Accepted → (before after : List (List Fact)) → Type 0
 LeftOnceDone past next before after =
     (after ≡ facts_of (next ∷ past) ∷ [])
     ⊎ ((facts_of (next ∷ past) ≡ facts_of past) × (after ≡ before))
 
--- The effect of a failed event or opening on the records that may remain after a crash. A crash may
--- leave the same records as before. If no reason to refuse the event applies, a crash may also
--- leave these records together with all records of the event.
+-- The effect of a failed event or opening of the store on the records that a crash may leave. A
+-- crash may leave the same records as before the event. If no reason to refuse the event applies, a
+-- crash may also leave these records together with all records of the event.
 abbrev pub LeftOnceFailed : History → Accepted → (before after : List (List Fact)) → Type 0
 LeftOnceFailed past next before after =
     (after ≡ before) ⊎ (IsPast (next ∷ past) × (after ≡ before ++ facts_of (next ∷ past) ∷ []))
 
--- The effect of an event with this answer on the records that may remain after a crash. The event
--- was accepted, failed, or changed nothing. A retry changes nothing, and a refusal for a reason in
--- the event changes nothing.
+-- The effect of an event with the given answer on the records that may remain after a crash. The
+-- event was accepted, failed, or changed nothing. A retry changes nothing, and a refusal for a
+-- reason in the event changes nothing.
 abbrev pub LeftByEvent : History → (at : ℕ) → Event → Result Answer Refusal
     → (before after : List (List Fact)) → Type 0
 LeftByEvent past at e (Ok (answer.Again kind)) before after = after ≡ before
@@ -71,8 +71,9 @@ LeftByEvent past at e (Err refusal.Memory) before after =
     LeftOnceFailed past (Fed at e) before after
 LeftByEvent past at e (Err why) before after = after ≡ before
 
--- The effect of an opening of the store, with this result, on the records that may remain after a
--- crash. The opening was accepted, failed, or was refused for another reason.
+-- The effect of an opening of the store, with the given result, on the records that may remain
+-- after a crash. The opening was accepted, failed, or was refused for a reason other than a
+-- failure.
 abbrev pub LeftByOpening : {T : Type 0} → History → (at : ℕ) → Result T Refusal
     → (before after : List (List Fact)) → Type 0
 LeftByOpening past at (Ok x) before after = LeftOnceDone past (Opened at) before after
@@ -82,8 +83,9 @@ LeftByOpening past at (Err refusal.Memory) before after =
     LeftOnceFailed past (Opened at) before after
 LeftByOpening past at (Err why) before after = after ≡ before
 
--- States how a call to the store changes the records that a crash may leave. The given relation
--- holds between the possible records `before` and `after` the call.
+-- States how a call to the store changes the lists of records that a crash may leave. The given
+-- relation holds between the lists that a crash may leave before the call and those that it may
+-- leave after the call.
 abbrev pub Leaves : (old new : Ledger) → ((before after : List (List Fact)) → Type 0) → Type 0
 Leaves old new so = (before : List (List Fact)) → old.may_leave before
     → (after : List (List Fact)) × so before after × new.may_leave after

@@ -1,5 +1,5 @@
--- Queries for a part of a list. The parts are interval rows or rejected readings in a time span,
--- entries by sequence number, and the meters of an accounting register.
+-- Queries for a part of a list. The parts are interval rows (energies by quarter hour) or rejected
+-- readings in a time span, entries by sequence number, and the meters of an accounting register.
 use Rattle.std.specs.Prelude.{◌≡◌, ◌⊎◌, ℕ, List, Option, Some, None, Result, Ok, Err}
 use Rattle.std.specs.Option.{option_map, option_and_then}
 use Rattle.std.specs.declared.alloc.Global.{Global}
@@ -41,8 +41,8 @@ holds_at facts meter span =
 abbrev pub holds_named : List Fact → (meter : Option (List ℕ)) → Span → Option (List HeldReading)
 holds_named facts meter span = option_and_then (λ name. holds_at facts name span) meter
 
--- At most `most` entries of the named meter from sequence number `from` on, or `None` if no meter
--- has the name.
+-- At most `most` entries (readings, resets and so on) of the named meter from sequence number
+-- `from` on, or `None` if no meter has the name.
 abbrev pub entries_within : List Fact → (meter : Option (List ℕ)) → (from most : ℕ)
     → Option (List MeterEntry)
 entries_within facts meter from most =
@@ -50,7 +50,7 @@ entries_within facts meter from most =
     (option_and_then (opening_of facts) meter)
 
 -- The past and present meters of the named accounting register (named energy counter), each with
--- its installation, last entry and total energy. `None` if no register has the name.
+-- its opening (first entry), counter state and total energy. `None` if no register has the name.
 abbrev pub meters_at : List Fact → (register : List ℕ) → Option (List Installation)
 meters_at facts register =
     option_map (λ row. installations_of facts register) (register_of facts register)
@@ -61,7 +61,8 @@ abbrev pub meters_named : List Fact → (register : Option (List ℕ)) → Optio
 meters_named facts register = option_and_then (meters_at facts) register
 
 -- True if the result of a query for a list is correct. The result is the list, `NotFound` if the
--- list does not exist, or the refusal that reports a failure or a stopped program.
+-- list does not exist, or the refusal that reports a failure or a stopped program (which refuses
+-- everything).
 abbrev pub IsListed : {T : Type 0} → Option (List T) → (before after : Failures)
     → Result (Vec T Global) Refusal → Type 0
 IsListed rows before after (Ok listed) = (rows ≡ Some listed.items) × (after ≡ before)
@@ -69,14 +70,15 @@ IsListed None before after (Err why) =
     ((why ≡ refusal.NotFound) × (after ≡ before)) ⊎ IsOutside ⊥ before after why
 IsListed (Some rows) before after (Err why) = IsOutside ⊥ before after why
 
--- States that, if every wrong result of the store was detected, the list that a query returns
--- agrees with the store's records.
+-- States that, if every wrong result of the store was detected, the list that a query returns is
+-- the one that follows from the store's records.
 abbrev pub ListsIn : {T : Type 0} → (old new : Ledger) → Result (Vec T Global) Refusal
     → (List Fact → Option (List T)) → Type 0
 ListsIn old new result rows = (known : List Fact) → old.holds known → new.is_clean
     → IsListed (rows known) old.failures new.failures result
 
--- True if the list that a query returns agrees with the records of all accepted events.
+-- True if a query returned the list that the function `rows` computes from the records of all
+-- accepted events, or correctly reported a failure.
 abbrev pub ListsAccepted : {B T : Type 0} → (B → Ledger) → (old new : Office B)
     → Result (Vec T Global) Refusal → (List Fact → Option (List T)) → Type 0
 ListsAccepted ledger old new result rows = After ledger old new (λ past.

@@ -1,4 +1,5 @@
--- The effect on the store when the program opens the store.
+-- The effect of opening the program's event engine on its store: the records that are added, the
+-- Modbus sessions, and the errors.
 use Rattle.std.specs.Prelude.{◌≡◌, ◌⊎◌, ℕ, max, List, ◌∷◌, None, Some, Result, Ok, Err, IfErr}
 use Rattle.std.specs.declared.alloc.Global.{Global}
 use Rattle.std.specs.declared.vec.Vec.{Vec}
@@ -18,8 +19,9 @@ use Rattle.office_core.specs.Standing.{books_in}
 -- store's records are unchanged. Memory outside the store is needed only if no reason to refuse the
 -- opening applies.
 --
--- The store may have the same records after a crash as before. If the opening failed, it may also
--- have the opening's complete records.
+-- After a refused or failed opening of the store, a crash may leave the same records as before the
+-- opening. If the opening failed, a crash may also leave these records together with all records of
+-- the opening.
 pub record IsNotOpened (past : History) (at : ℕ) (old new : Ledger) (why : Refusal) : Type 0 where
   pub books : BooksStand new past
   pub leaves : Leaves old new (LeftByOpening {T = Unit {0}} past at (Err why))
@@ -36,7 +38,7 @@ HandsBackUnopened ledger books at past back =
 
 -- The records that may remain after a crash that follows an opening of the store. The crash leaves
 -- the records including those of the opening. If the opening added no record, a crash may leave the
--- same records as before.
+-- same records as before the opening.
 abbrev pub LeavesOpening : {B : Type 0} → (B → Ledger) → (books : B) → (at : ℕ) → History
     → Office B → Type 0
 LeavesOpening ledger books at past office = (ledger (books_in office)).is_clean
@@ -55,8 +57,9 @@ pub record IsReopened (past : History) (at : ℕ) (old new : Ledger) (slots : Li
   pub leaves : Leaves old new (LeftByOpening past at (Ok slots))
   pub keeps : KeepsSlots slots (slots_of (Opened at ∷ past))
 
--- The effect of an opening of the store. On `Ok` the store has the opening's records. On an error
--- its records are unchanged.
+-- States what an opening of the store by the program changes. On `Ok` the store also has the
+-- records of the opening, such as the outcomes of polls that a restart ended. On an error its
+-- records are unchanged.
 abbrev pub Reopens : History → (at : ℕ) → (old new : Ledger) → Result (Vec Slot Global) Refusal
     → Type 0
 Reopens past at old new (Ok slots) = IsReopened past at old new slots.items
@@ -66,7 +69,8 @@ Reopens past at old new (Err why) = IsNotOpened past at old new why
 -- exactly the store's failures. If the store is clean (every wrong result was detected) after the
 -- opening, it was clean before. The time zone stays the same.
 --
--- No opening is refused as `Stopped`, or because a quarter hour has no civil day.
+-- No opening of the store is refused as `Stopped` (the program has stopped), or because a quarter
+-- hour has no civil day.
 pub record Passed {T : Type 0} (old new : Ledger) (result : Result T Refusal) : Type 0 where
   pub counts : CountsFailures old.failures new.failures result
   pub clean : new.is_clean → old.is_clean

@@ -24,7 +24,8 @@ abbrev pub row_at : List Fact → Register → SiteRow
 row_at facts register =
     record { register = register; meter = installation_at facts register.name }
 
--- The rows of these accounting registers (named energy counters), in the same order.
+-- The rows of the query for the site: for each given accounting register (a named energy counter),
+-- the register and its meter. The rows have the order of the registers.
 abbrev pub rows_at : List Fact → List Register → List SiteRow
 rows_at facts registers = map (row_at facts) registers
 
@@ -33,8 +34,8 @@ rows_at facts registers = map (row_at facts) registers
 abbrev pub rows_of : List Fact → Device → List SiteRow
 rows_of facts device = rows_at facts (registers_of facts device.name)
 
--- The rows of the accounting registers (named energy counters) of several devices, in the order of
--- the devices.
+-- The rows of the query for the site: for several devices, each accounting register (a named energy
+-- counter) with its meter, in the order of the devices.
 abbrev pub rows_of_all : List Fact → List Device → List SiteRow
 rows_of_all facts devices = flat_map (rows_of facts) devices
 
@@ -44,7 +45,8 @@ abbrev pub site_of : List Fact → List SiteRow
 site_of facts = rows_of_all facts (reverse (devices_in facts))
 
 -- True if the result is the list of all accounting registers (named energy counters) with their
--- meters, or a failure. The list needs memory outside the store.
+-- meters, or a refusal that the request did not cause. Its causes: the store failed, memory ran
+-- out, or the program has stopped.
 abbrev pub IsSite : List Fact → (before after : Failures) → Result (Vec SiteRow Global) Refusal
     → Type 0
 IsSite facts before after result = MatchResult result
@@ -52,20 +54,21 @@ IsSite facts before after result = MatchResult result
     (IsOutside (Unit {0}) before after)
 
 -- States that, if every wrong result of the store was detected, the listed accounting registers
--- (named energy counters) and meters agree with the store's records.
+-- (named energy counters) and meters are those that follow from the store's records.
 abbrev pub SiteIn : (old new : Ledger) → Result (Vec SiteRow Global) Refusal → Type 0
 SiteIn old new result = (known : List Fact) → old.holds known → new.is_clean
     → IsSite known old.failures new.failures result
 
--- True if the listed accounting registers (named energy counters) and meters agree with the records
--- of all accepted events.
+-- True if the listed accounting registers (named energy counters) and meters are those that follow
+-- from the records of all accepted events.
 abbrev pub ReportsSite : {B : Type 0} → (B → Ledger) → (old new : Office B)
     → Result (Vec SiteRow Global) Refusal → Type 0
 ReportsSite ledger old new result = After ledger old new (λ past.
     IsSite (facts_of past) (failures_of ledger old) (failures_of ledger new) result)
 
--- States that, if every wrong result of the store was detected, a call that returns `Ok` appends
--- exactly the expected rows to the list.
+-- States that a call that returns `Ok` appends to a list exactly the rows that the given function
+-- computes from the store's records. It states nothing if a wrong result of the store was not
+-- detected.
 abbrev pub AddsRows : {T E : Type 0} → (old new : Ledger) → (List Fact → List SiteRow)
     → (before after : List SiteRow) → Result T E → Type 0
 AddsRows old new says before after result = (known : List Fact) → old.holds known → new.is_clean

@@ -18,21 +18,22 @@ pub record IsWithFailed (past : History) (fed : Answered) (later : List Answered
   pub none_later : facts_of (history_after past (fed ∷ later)) ≡ facts_of past
   pub are : facts ≡ facts_of (Fed fed.at fed.event ∷ past)
 
--- True if the records include those of one failed event, after which no event added a record.
+-- True if an event failed after it added records, these records are in the list `facts`, and no
+-- later event added a record.
 abbrev pub AreWithFailed : History → List Answered → List Fact → Type 0
 AreWithFailed past [] facts = ⊥
 AreWithFailed past (fed ∷ later) facts =
     IsWithFailed past fed later facts
     ⊎ AreWithFailed (with_answer past fed.at fed.event fed.result) later facts
 
--- True if the records are those of all acknowledged events, possibly with those of one failed
--- event.
+-- True if the records that a crash leaves are those of all acknowledged events, possibly with those
+-- of one failed event.
 abbrev pub AreOfEvents : History → List Answered → List Fact → Type 0
 AreOfEvents past fed facts =
     (facts ≡ facts_of (history_after past fed)) ⊎ AreWithFailed past fed facts
 
--- True if the later events added no record, and the store could have these records after a crash
--- before these events.
+-- True if the events between two histories added no record, and the store could have the records
+-- `facts` after a crash before these events.
 abbrev pub AreOfBefore : (past later : History) → (before : List (List Fact)) → List Fact → Type 0
 AreOfBefore past later before facts = (facts_of later ≡ facts_of past) × Contains before facts
 
@@ -46,8 +47,8 @@ EventsAreLeftWhole =
     → All (λ facts. AreOfEvents past fed facts
     ⊎ AreOfBefore past (history_after past fed) before facts) after
 
--- Theorem: after a run of events, a crash leaves the records of all acknowledged events, possibly
--- with those of one failed event. The run begins with the opening of the store.
+-- Theorem: after the store was opened and a sequence of events was processed, a crash leaves the
+-- records of all acknowledged events. The records of one failed event may also be left.
 abbrev pub RunsAreLeftWhole : Type 0
 RunsAreLeftWhole =
     (past : History) (opened : ℕ) (fed : List Answered) (before after : List (List Fact))

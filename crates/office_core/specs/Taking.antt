@@ -22,41 +22,43 @@ use Rattle.office_core.specs.Standing.{Goes, books_in, is_stopped, notes_in, out
 abbrev pub failures_of : {B : Type 0} → (B → Ledger) → Office B → Failures
 failures_of ledger office = (ledger office.books).failures
 
--- True if the answer to an event is the defined one (`decision_of`), or correctly reports a failure
--- or a stopped program. Memory outside the store is needed only if the event is accepted.
+-- True if the answer to an event is the one that `decision_of` (the specification of answers) gives
+-- from the accepted events, or correctly reports a failure or a stopped program. Memory outside the
+-- store is needed only if the event is accepted.
 abbrev pub IsAnswer : History → (at : ℕ) → Event → (before after : Failures)
     → Result Answer Refusal → Type 0
 IsAnswer past at e before after result =
     ((result ≡ decision_of past at e) × (after ≡ before))
     ⊎ FailsOutside (IsAccepted past at e) before after result
 
--- True if the answer to the event is correct, and the store's failure counter changes as the answer
--- requires.
+-- True if the answer to the event is the one that the accepted events require or reports a failure,
+-- and the store's failure counter changes as the answer requires.
 abbrev pub AnswersEvent : {B : Type 0} → (B → Ledger) → (at : ℕ) → Event → (old new : Office B)
     → Result Answer Refusal → History → Type 0
 AnswersEvent ledger at e old new result past =
     IsAnswer past at e (failures_of ledger old) (failures_of ledger new) result
 
--- True if the records that may remain after a crash change as the answer to the event requires.
+-- True if the lists of records that a crash may leave before and after the event are related as the
+-- specification `LeftByEvent` requires for the event's answer.
 abbrev pub LeavesEvent : {B : Type 0} → (B → Ledger) → (at : ℕ) → Event → (old new : Office B)
     → Result Answer Refusal → History → Type 0
 LeavesEvent ledger at e old new result past =
     Leaves (ledger (books_in old)) (ledger (books_in new)) (LeftByEvent past at e result)
 
 -- True if the program reports the notifications (outcomes and readings) and the frames to send of
--- this event, and no others.
+-- the given event, and no others.
 pub record IsReported {B : Type 0} (past : History) (at : ℕ) (e : Event)
     (result : Result Answer Refusal) (office : Office B) : Type 0 where
   pub notes : notes_in office ≡ notes_after past at e result
   pub outgoing : outgoing_in office ≡ outgoing_after past at e result
 
 -- The guarantees of processing an event, whatever the store returned. The program refuses the event
--- as `Stopped` if and only if the program has stopped. No event is refused because a quarter hour
--- has no civil day.
+-- as `Stopped` if and only if an earlier failure makes it refuse all events. No event is refused
+-- because a quarter hour has no civil day.
 --
--- If an event that may end polls fails, the program stops. The program reports exactly the store's
--- failures. If the store is clean (every wrong result was detected) after the event, it was clean
--- before. The time zone stays the same.
+-- If an event that may end polls fails, the program stops (it refuses all later events). The
+-- program reports exactly the store's failures. If the store is clean (every wrong result was
+-- detected) after the event, it was clean before. The time zone stays the same.
 pub record Ends {B : Type 0} (ledger : B → Ledger) (old new : Office B) (e : Event)
     (result : Result Answer Refusal) : Type 0 where
   pub stopped : (result ≡ Err refusal.Stopped) ↔ (is_stopped old ≡ true)
@@ -88,9 +90,9 @@ pub record MayTake {B : Type 0} (ledger : B → Ledger) (past : History) (e : Ev
   pub notes : notes_in office ≡ []
   pub outgoing : outgoing_in office ≡ []
 
--- The effect of processing an event. The answer and the notifications are correct, and the store
--- has the records after the event. The program's state agrees with these records unless the program
--- has stopped.
+-- The effect of processing an event. The answer and the notifications are those that the accepted
+-- events require, and the store has the records after the event. The program's state agrees with
+-- these records unless the program has stopped (it refuses all events).
 pub record Takes {B : Type 0} (ledger : B → Ledger) (past : History) (at : ℕ) (e : Event)
     (old new : Office B) (result : Result Answer Refusal) : Type 0 where
   pub answer : IsAnswer past at e
@@ -100,16 +102,16 @@ pub record Takes {B : Type 0} (ledger : B → Ledger) (past : History) (at : ℕ
   pub goes : stops e result ≡ false → Goes (with_answer past at e result) new
   pub reported : IsReported past at e result new
 
--- States that, if every wrong result of the store was detected, the program processed the event
--- correctly for every history before the event.
+-- States that, if every wrong result of the store was detected, processing the event had the
+-- required effect (`Takes`) for every history before the event.
 abbrev pub TakesAny : {B : Type 0} → (B → Ledger) → (at : ℕ) → Event → (old new : Office B)
     → Result Answer Refusal → Type 0
 TakesAny ledger at e old new result =
     (past : History) → MayTake ledger past e old → (ledger (books_in new)).is_clean
     → Takes ledger past at e old new result
 
--- States that, if every wrong result of the store was detected, the program processed the event
--- correctly for every history that accepts the event.
+-- States that, if every wrong result of the store was detected, processing the event had the
+-- required effect (`Takes`) for every history that accepts the event.
 abbrev pub TakesAccepted : {B : Type 0} → (B → Ledger) → (at : ℕ) → Event → (old new : Office B)
     → Result Answer Refusal → Type 0
 TakesAccepted ledger at e old new result =
@@ -119,9 +121,11 @@ TakesAccepted ledger at e old new result =
 
 -- The guarantees of processing an event, whatever the store returned. The program reports exactly
 -- the store's failures. If the store is clean (every wrong result was detected) after the event, it
--- was clean before. The time zone and the stopped flag stay the same.
+-- was clean before. The event changes neither the time zone nor the flag that makes the program
+-- refuse all events.
 --
--- The event is not refused as `Stopped`, or because a quarter hour has no civil day.
+-- The event is not refused as `Stopped` (the program has stopped), or because a quarter hour has no
+-- civil day.
 pub record Passes {B : Type 0} (ledger : B → Ledger) (old new : Office B)
     (result : Result Answer Refusal) : Type 0 where
   pub counts : Counts (ledger (books_in old)).failures (ledger (books_in new)).failures result

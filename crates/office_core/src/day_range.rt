@@ -15,15 +15,15 @@ use office_books::Span;
 /// An upper bound of UTC offsets, in days.
 const MARGIN: i32 = 2;
 
-/// Removes the days outside the range from the list.
+/// Removes the days (energy by civil day) outside the range of days from the list.
 pub fn keep_within(days: &mut Vec<DayTotal>, range: &DayRange)
     ensures { days.new.items ≡ days_in range.now days.old.items }
 {
     days.retain(|total| range.has(total.day));
 }
 
-/// Returns the start of the UTC day with this day number, in seconds since 1970-01-01 UTC, or 0 for
-/// a day before 1970.
+/// Returns the start of the UTC day with the given day number, in seconds since 1970-01-01 UTC, or
+/// 0 for a day before 1970.
 fn begin_of(day: i32) -> u64
     ensures { result ≡ utc_start day }
 {
@@ -45,7 +45,7 @@ fn latest(day: Day) -> u64
 }
 
 /// Returns the time span from two days before `from` to two days after `till`. If `from` or `till`
-/// is open, the span contains all times.
+/// is `None`, the span contains all times.
 fn span_between(from: Option<Day>, till: Option<Day>) -> Span
     ensures { result ≡ range.span_between from till }
 {
@@ -63,8 +63,8 @@ fn span_between(from: Option<Day>, till: Option<Day>) -> Span
 
 /// Returns a time span that contains each quarter hour of the range's days, in every time zone.
 ///
-/// The span has at most two additional days at each end. If an end of the range is open, the span
-/// is `Span::All`.
+/// The returned time span has at most two additional days at each end. If the range of days has no
+/// first day or no end, the span is `Span::All`.
 pub fn span_around(range: DayRange) -> Span
     ensures span { result ≡ span_of range }
     ensures around { (zone : Zone) (start : ℕ) → has_day range (day_at zone start) ≡ true

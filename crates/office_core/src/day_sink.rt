@@ -24,8 +24,8 @@ impl DaySink {
     ghost use Rattle.interval_core.specs.Fold.{HasTaken};
     ghost use Rattle.office_core.specs.DaySums.{AddsRow, EndsAs};
 
-    /// Creates a sink for sums by civil day that has received no interval rows, without allocating
-    /// memory.
+    /// Creates a sink that adds up interval rows (energy by quarter hour) by civil day and has
+    /// received no rows, without allocating memory.
     pub fn new(alloc: Global, zone: Zone) -> DaySink
         ensures zone { result.zone ≡ zone }
         ensures works { result.fault ≡ None }
@@ -39,8 +39,9 @@ impl DaySink {
         }
     }
 
-    /// Adds an interval row to the energy of its civil day. The sink fails if the row starts before
-    /// an earlier row or after the last timestamp that has a civil day.
+    /// Adds an interval row (the energy of a quarter hour) to the energy of its civil day. The sink
+    /// fails if the row starts before an earlier row or after the last timestamp that has a civil
+    /// day.
     fn add(&mut self, row: Share)
         requires works { self.old.fault ≡ None }
         ensures { AddsRow self.old row self.new }

@@ -50,8 +50,8 @@ fn is_failure(given: &Result<Answer, Refusal>) -> bool
     matches!(given, Err(Refusal::Store(_)) | Err(Refusal::Memory))
 }
 
-/// Returns true if the program stops after this answer: the event may end polls, and the store
-/// failed or memory ran out.
+/// Returns true if the answer to the event stops the program, which then refuses all events. The
+/// event may end polls, and the answer reports that the store failed or memory ran out.
 pub fn stops(event: &Event, given: &Result<Answer, Refusal>) -> bool
     ensures { result ≡ failing.stops event.now given.now }
 {

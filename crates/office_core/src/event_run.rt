@@ -1,4 +1,4 @@
-//! Opens the program over a store and processes a list of events.
+//! Opens an office (the program's event engine) with a store and processes a list of events.
 ghost use Rattle.std.specs.Prelude.{◌∷◌, Err, IfOk, IfErr};
 ghost use Rattle.office_books.specs.History.{History, Opened};
 ghost use Rattle.office_core.specs.Leaving.{BooksStand};
@@ -12,11 +12,13 @@ use office_books::{Books, books_are_true};
 use office_events::{Event, Refusal};
 use std::alloc::Global;
 
-/// Opens the program over a store and processes these events, each at its timestamp.
+/// Opens an office (the program's event engine) with a store and processes these events, each at
+/// its timestamp.
 ///
-/// Timestamps are in seconds since 1970-01-01 UTC. Each event has one answer. If every wrong result
-/// of the store was detected, the store has the records of the accepted events afterwards. The
-/// recorded energy then agrees with the meters' readings.
+/// Timestamps are in seconds since 1970-01-01 UTC. Each event of the run gets one answer. If every
+/// wrong result of the store was detected, the store has the records of the accepted events after
+/// the run. Each meter's recorded energy is then its last reading less its first, corrected for
+/// rollovers, resets and rescales.
 ///
 /// The run allocates memory for all answers before it opens the store. If the allocation or the
 /// opening fails, the caller gets the store back.

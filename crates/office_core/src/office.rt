@@ -1,4 +1,5 @@
-//! The type `Office`, which accepts events and answers queries, and its opening over a store.
+//! The type `Office` (the event engine), which accepts events and answers queries, and the
+//! functions that open it with a store.
 ghost use Rattle.std.specs.Prelude.{◌≡◌, ◌≤◌, ◌∷◌, true, false, None, Ok, Err};
 ghost use Rattle.std.specs.Prelude.{IfOk, IfErr, MatchResult};
 ghost use Rattle.std.specs.Option.{option_and_then};
@@ -53,10 +54,11 @@ pub struct Office<B: Books> {
 }
 
 impl<B: Books> Office<B> {
-    /// Opens an office over a store, at the timestamp `moment` in seconds since 1970-01-01 UTC.
+    /// Opens an office (the program's event engine) with a store, at the timestamp `moment` in
+    /// seconds since 1970-01-01 UTC.
     ///
-    /// At the opening no device is connected, and each poll that was still pending is recorded as
-    /// lost. If the opening is refused, the caller gets the store back.
+    /// At the opening no device is connected, and each poll that was still pending (without an
+    /// outcome) is recorded as lost. If the opening is refused, the caller gets the store back.
     pub fn open(alloc: Global, mut books: B, moment: u64) -> Result<Office<B>, (B, Refusal)>
         ensures opened { (past : History) → BooksStand (B.ledger books) past
             → IfOk result (StandsIfClean B.ledger (Opened moment ∷ past)) }
@@ -86,8 +88,9 @@ impl<B: Books> Office<B> {
     /// Opens the program's store for queries, at the later of `moment` and the latest timestamp in
     /// the store.
     ///
-    /// A clock that was set back therefore does not prevent queries. Each pending poll is recorded
-    /// as lost.
+    /// Therefore the store can be opened for queries even if the clock was set back to before the
+    /// latest timestamp in the store. The opening records each pending poll (without an outcome) as
+    /// lost.
     pub fn open_to_ask(alloc: Global, mut books: B, moment: u64) -> Result<Office<B>, (B, Refusal)>
         ensures opened { (past : History) → BooksStand (B.ledger books) past
             → IfOk result (StandsIfClean B.ledger (Opened (asking_moment past moment) ∷ past)) }
@@ -225,8 +228,8 @@ impl<B: Books> Office<B> {
         questions::register(&mut self.books, name)
     }
 
-    /// Returns the meter with the name: its installation, last entry and total energy. The name
-    /// `None` is invalid, and no meter has it.
+    /// Returns the meter with the name: its opening (first entry), the state of its counter and its
+    /// total energy. The name `None` is invalid, and no meter has it.
     pub fn meter(&mut self, name: &Option<Name>) -> Result<Installation, Refusal>
         ensures found { ReportsRow B.ledger self.old self.new result
             (λ facts. option_and_then (meter_of facts) name.now) }
@@ -240,7 +243,8 @@ impl<B: Books> Office<B> {
     }
 
     /// Returns the latest meter at an accounting register (a named energy counter), open or closed,
-    /// with its last entry and total energy. The name `None` is invalid, and no register has it.
+    /// with the state of its counter and its total energy. The name `None` is invalid, and no
+    /// register has it.
     pub fn installation(&mut self, register: &Option<Name>) -> Result<Installation, Refusal>
         ensures found { ReportsRow B.ledger self.old self.new result
             (λ facts. option_and_then (installation_at facts) register.now) }
@@ -254,9 +258,9 @@ impl<B: Books> Office<B> {
     }
 
     /// Compares a request with the stored request that has the same idempotency key. The result is
-    /// `Same` or `Other`.
+    /// `Same` if both have the same bytes (a retry), otherwise `Other`.
     ///
-    /// Returns `NotFound` if the store has no request with this key.
+    /// Returns `NotFound` if the store has no request with this idempotency key.
     pub fn repeat(
         &mut self,
         caller: &Option<Name>,
@@ -274,7 +278,7 @@ impl<B: Books> Office<B> {
         questions::repeat(&mut self.books, caller, number, request)
     }
 
-    /// Returns the poll with this number, and its outcome if the poll has ended.
+    /// Returns the poll with the given number, and its outcome if the poll has ended.
     pub fn poll(&mut self, number: u64) -> Result<PollRow, Refusal>
         ensures found { ReportsRow B.ledger self.old self.new result
             (λ facts. poll_row_of facts number) }
@@ -287,7 +291,8 @@ impl<B: Books> Office<B> {
         questions::poll(&mut self.books, number)
     }
 
-    /// Passes the energy of a meter to the sink, in mWh: one row for each quarter hour, in order.
+    /// Passes the energy of a meter to the sink (a visitor of rows), in mWh: one row for each
+    /// quarter hour, in order.
     pub fn intervals<K: RowSink<Share>>(
         &mut self,
         meter: &Option<Name>,
@@ -305,8 +310,8 @@ impl<B: Books> Office<B> {
         questions::intervals(&mut self.books, meter, sink)
     }
 
-    /// Passes the energy of a meter in a time span to the sink, in mWh: one row for each quarter
-    /// hour, in order.
+    /// Passes the energy of a meter in a time span to the sink (a visitor of rows), in mWh: one row
+    /// for each quarter hour, in order.
     pub fn intervals_within<K: RowSink<Share>>(
         &mut self,
         meter: &Option<Name>,
@@ -325,8 +330,8 @@ impl<B: Books> Office<B> {
         questions::intervals_of_span(&mut self.books, meter, span, sink)
     }
 
-    /// Passes the rejected readings of a meter in a time span to the sink, in the order in which
-    /// they were recorded.
+    /// Passes the rejected readings of a meter in a time span to the sink (a visitor of rows), in
+    /// the order in which they were recorded.
     pub fn holds<K: RowSink<HeldReading>>(
         &mut self,
         meter: &Option<Name>,
@@ -346,8 +351,8 @@ impl<B: Books> Office<B> {
     }
 
     /// Returns all meters that were installed at an accounting register (a named energy counter),
-    /// in order of installation, closed meters included. Each has its last entry and total energy.
-    /// The name `None` is invalid, and no register has it.
+    /// in order of installation, closed meters included. Each has the state of its counter and its
+    /// total energy. The name `None` is invalid, and no register has it.
     pub fn meters(&mut self, register: &Option<Name>) -> Result<Vec<Installation>, Refusal>
         ensures listed { ListsAccepted B.ledger self.old self.new result
             (λ facts. meters_named facts register.now) }
@@ -360,8 +365,9 @@ impl<B: Books> Office<B> {
         questions::meters(&mut self.books, register)
     }
 
-    /// Returns at most `most` entries of a meter from sequence number `from` on, in order, voided
-    /// (cancelled) entries included. The opening, which installs the meter, has number 1.
+    /// Returns at most `most` entries (readings, resets and so on) of a meter from sequence number
+    /// `from` on, in order, voided (cancelled) entries included. The opening, which installs the
+    /// meter, has number 1.
     pub fn entries(
         &mut self,
         meter: &Option<Name>,
@@ -379,11 +385,11 @@ impl<B: Books> Office<B> {
         questions::entries(&mut self.books, meter, from, most)
     }
 
-    /// Passes the energy of an accounting register (a named energy counter) to the sink, in mWh:
-    /// one row for each civil day in the store's time zone.
+    /// Passes the energy of an accounting register (a named energy counter) to the sink (a visitor
+    /// of rows), in mWh: one row for each civil day in the store's time zone.
     ///
-    /// The sink gets the days in order, after the energy of all days was added up. A register
-    /// without an installed meter has no days.
+    /// The sink (a visitor of rows) gets the days in order, after the energy of all days was added
+    /// up. A register without an installed meter has no days.
     pub fn days<K: RowSink<DayTotal>>(
         &mut self,
         register: &Option<Name>,
@@ -401,11 +407,11 @@ impl<B: Books> Office<B> {
         questions::days(self.alloc, &mut self.books, register, sink)
     }
 
-    /// Passes the energy of an accounting register on the days of `range` to the sink, one row for
-    /// each civil day.
+    /// Passes the energy of an accounting register (a named energy counter) on the days of `range`
+    /// to the sink (a visitor of rows), one row for each civil day.
     ///
-    /// If both ends of the range are given, the query reads only the quarter hours of these days,
-    /// and of two more days at each end.
+    /// If both ends of `range` are given, the query reads only the quarter hours of the days in the
+    /// range, and of two more days at each end.
     pub fn days_within<K: RowSink<DayTotal>>(
         &mut self,
         register: &Option<Name>,
@@ -427,7 +433,8 @@ impl<B: Books> Office<B> {
     /// Returns all accounting registers (named energy counters), each with the latest meter that
     /// was installed at it, if any.
     ///
-    /// The devices, and the registers of each device, are in the order in which they were added.
+    /// In the returned list, the devices, and the accounting registers (named energy counters) of
+    /// each device, are in the order in which they were added.
     pub fn site(&mut self) -> Result<Vec<SiteRow>, Refusal>
         ensures found { ReportsSite B.ledger self.old self.new result }
         ensures asks { OnlyAsks B.ledger self.old self.new result }

@@ -1,4 +1,5 @@
-//! Opens an existing store for the program, and records the store's pending polls as lost.
+//! Opens an existing store for the program, and records the store's pending polls (without an
+//! outcome) as lost.
 
 mod opened_office;
 

@@ -33,7 +33,7 @@ fn found<T: Drop>(answer: Result<Option<T>, BooksFault>) -> Result<T, Refusal>
     }
 }
 
-/// Returns the last device with this name in a list, or `None` if no device has the name.
+/// Returns the last device with the given name in a list, or `None` if no device has the name.
 #[tactic(auto, using(office_books::proofs::Lists::find_more))]
 fn last_named(devices: &[Device], name: &Name) -> Option<Device>
     ensures { result ≡ find (λ device. same device.name name.now) (reverse devices.now) }
@@ -47,8 +47,8 @@ fn last_named(devices: &[Device], name: &Name) -> Option<Device>
     last
 }
 
-/// Returns the device with this name, or `None` if no device has the name. The function searches
-/// all devices, at most 64.
+/// Returns the device with the given name, or `None` if no device has the name. The function
+/// searches all devices, at most 64.
 fn device_in<B: Books>(books: &mut B, name: &Name) -> Result<Option<Device>, BooksFault>
     ensures found { Finds (B.ledger books.old) (B.ledger books.new) result
         (λ known row. row ≡ device_of known name.now) }
@@ -60,7 +60,7 @@ fn device_in<B: Books>(books: &mut B, name: &Name) -> Result<Option<Device>, Boo
     }
 }
 
-/// Returns the device with this name, or the refusal `NotFound`.
+/// Returns the device with the given name, or the refusal `NotFound`.
 pub fn device<B: Books>(books: &mut B, name: &Option<Name>) -> Result<Device, Refusal>
     ensures found { FoundIn (B.ledger books.old) (B.ledger books.new) result
         (λ known. option_and_then (device_of known) name.now) }
@@ -73,7 +73,7 @@ pub fn device<B: Books>(books: &mut B, name: &Option<Name>) -> Result<Device, Re
     found(device_in(books, name))
 }
 
-/// Returns the accounting register (a named energy counter) with this name, or the refusal
+/// Returns the accounting register (a named energy counter) with the given name, or the refusal
 /// `NotFound`.
 pub fn register<B: Books>(books: &mut B, name: &Option<Name>) -> Result<Register, Refusal>
     ensures found { FoundIn (B.ledger books.old) (B.ledger books.new) result
@@ -87,7 +87,8 @@ pub fn register<B: Books>(books: &mut B, name: &Option<Name>) -> Result<Register
     found(books.register(name))
 }
 
-/// Returns a meter with its installation, last entry and total energy, or the refusal `NotFound`.
+/// Returns a meter with its opening (first entry), the state of its counter and its total energy,
+/// or the refusal `NotFound`.
 pub fn meter<B: Books>(books: &mut B, name: &Option<Name>) -> Result<Installation, Refusal>
     ensures found { FoundIn (B.ledger books.old) (B.ledger books.new) result
         (λ known. option_and_then (meter_of known) name.now) }
@@ -100,8 +101,8 @@ pub fn meter<B: Books>(books: &mut B, name: &Option<Name>) -> Result<Installatio
     found(books.meter(name))
 }
 
-/// Returns the latest meter at an accounting register (a named energy counter) with its last entry
-/// and total energy, or the refusal `NotFound`.
+/// Returns the latest meter at an accounting register (a named energy counter) with the state of
+/// its counter and its total energy, or the refusal `NotFound`.
 pub fn installation<B: Books>(
     books: &mut B,
     register: &Option<Name>,
@@ -118,7 +119,7 @@ pub fn installation<B: Books>(
 }
 
 /// Compares a request with the stored request that has the same idempotency key. Returns the
-/// refusal `NotFound` if the store has no request with this key.
+/// refusal `NotFound` if the store has no request with this idempotency key.
 pub fn repeat<B: Books>(
     books: &mut B,
     caller: &Option<Name>,
@@ -136,7 +137,7 @@ pub fn repeat<B: Books>(
     found(books.repeat(name, number, request))
 }
 
-/// Returns the poll with this number, and its outcome if the poll has ended.
+/// Returns the poll with the given number, and its outcome if the poll has ended.
 pub fn poll<B: Books>(books: &mut B, number: u64) -> Result<PollRow, Refusal>
     ensures found { FoundIn (B.ledger books.old) (B.ledger books.new) result
         (λ known. poll_row_of known number) }
@@ -146,7 +147,8 @@ pub fn poll<B: Books>(books: &mut B, number: u64) -> Result<PollRow, Refusal>
     found(books.poll(number))
 }
 
-/// Passes the energy of a meter to the sink, in mWh: one row for each quarter hour, in order.
+/// Passes the energy of a meter to the sink (a visitor of rows), in mWh: one row for each quarter
+/// hour, in order.
 pub fn intervals<B: Books, K: RowSink<Share>>(
     books: &mut B,
     meter: &Option<Name>,
@@ -161,8 +163,8 @@ pub fn intervals<B: Books, K: RowSink<Share>>(
     intervals_of_span(books, meter, Span::All, sink)
 }
 
-/// Passes the energy of a meter in a time span to the sink, in mWh: one row for each quarter hour,
-/// in order.
+/// Passes the energy of a meter in a time span to the sink (a visitor of rows), in mWh: one row for
+/// each quarter hour, in order.
 pub fn intervals_of_span<B: Books, K: RowSink<Share>>(
     books: &mut B,
     meter: &Option<Name>,
@@ -183,8 +185,8 @@ pub fn intervals_of_span<B: Books, K: RowSink<Share>>(
     Ok(())
 }
 
-/// Passes the rejected readings of a meter in a time span to the sink, in the order in which they
-/// were recorded.
+/// Passes the rejected readings of a meter in a time span to the sink (a visitor of rows), in the
+/// order in which they were recorded.
 pub fn holds<B: Books, K: RowSink<HeldReading>>(
     books: &mut B,
     meter: &Option<Name>,
@@ -206,7 +208,7 @@ pub fn holds<B: Books, K: RowSink<HeldReading>>(
 }
 
 /// Returns all meters that were installed at an accounting register, in order of installation,
-/// closed meters included. Each has its last entry and total energy.
+/// closed meters included. Each has the state of its counter and its total energy.
 pub fn meters<B: Books>(
     books: &mut B,
     register: &Option<Name>,
@@ -223,8 +225,9 @@ pub fn meters<B: Books>(
     Ok(books.meters(register)?)
 }
 
-/// Returns at most `most` entries of a meter from sequence number `from` on, in order, voided
-/// (cancelled) entries included. The opening, which installs the meter, has number 1.
+/// Returns at most `most` entries (readings, resets and so on) of a meter from sequence number
+/// `from` on, in order, voided (cancelled) entries included. The opening, which installs the meter,
+/// has number 1.
 pub fn entries<B: Books>(
     books: &mut B,
     meter: &Option<Name>,
@@ -243,7 +246,7 @@ pub fn entries<B: Books>(
     Ok(books.entries(meter, from, most)?)
 }
 
-/// Passes all of these days, each with its energy, to the sink, in order.
+/// Passes the given days, each with its energy, to the sink (a visitor of days), in order.
 fn hand_on<K: RowSink<DayTotal>>(days: &[DayTotal], sink: &mut K)
     ensures took { TakesAll K.takes sink.old days.now sink.new }
     ensures few { length days.now < 2 ^ 64 }
@@ -253,7 +256,8 @@ fn hand_on<K: RowSink<DayTotal>>(days: &[DayTotal], sink: &mut K)
     }
 }
 
-/// Returns the energy of a recorded accounting register in a time span by civil day, in order.
+/// Returns the energy of a recorded accounting register (a named energy counter) in a time span by
+/// civil day, in order.
 fn days_of<B: Books>(
     alloc: Global,
     books: &mut B,
@@ -269,8 +273,8 @@ fn days_of<B: Books>(
     days.into_days()
 }
 
-/// Passes the energy of an accounting register (a named energy counter) to the sink, in mWh: one
-/// row for each civil day in the store's time zone.
+/// Passes the energy of an accounting register (a named energy counter) to the sink (a visitor of
+/// rows), in mWh: one row for each civil day in the store's time zone.
 pub fn days<B: Books, K: RowSink<DayTotal>>(
     alloc: Global,
     books: &mut B,
@@ -291,7 +295,8 @@ pub fn days<B: Books, K: RowSink<DayTotal>>(
     Ok(())
 }
 
-/// Returns the energy of a recorded accounting register on each civil day in the range, in order.
+/// Returns the energy of a recorded accounting register (a named energy counter) on each civil day
+/// in the range, in order.
 fn days_in<B: Books>(
     alloc: Global,
     books: &mut B,
@@ -309,7 +314,7 @@ fn days_in<B: Books>(
 }
 
 /// Passes the energy of an accounting register (a named energy counter) on the days of a range to
-/// the sink, in mWh: one row for each civil day.
+/// the sink (a visitor of rows), in mWh: one row for each civil day.
 pub fn days_within<B: Books, K: RowSink<DayTotal>>(
     alloc: Global,
     books: &mut B,

@@ -1,5 +1,5 @@
-//! The result of a run of events. The type `Run` has its own module, because a module cannot
-//! contain both `Run` and the function `run`.
+//! The result of processing a sequence of events (a run). The type `Run` has its own module,
+//! because a module cannot contain both `Run` and the function `run`.
 use crate::office::Office;
 use office_books::Books;
 use office_events::{Answer, Refusal};

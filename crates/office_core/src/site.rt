@@ -36,8 +36,8 @@ fn add_register<B: Books>(
     Ok(())
 }
 
-/// Appends these accounting registers (named energy counters) with their latest meters to `rows`,
-/// in order.
+/// Appends the given accounting registers (named energy counters) with their latest meters to
+/// `rows`, in order.
 fn add_registers<B: Books>(
     rows: &mut Vec<SiteRow>,
     books: &mut B,
@@ -68,8 +68,8 @@ fn add_device<B: Books>(
     add_registers(rows, books, &registers)
 }
 
-/// Appends these devices' accounting registers (named energy counters) with their latest meters to
-/// `rows`, in order.
+/// Appends the given devices' accounting registers (named energy counters) with their latest meters
+/// to `rows`, in order.
 fn add_devices<B: Books>(
     rows: &mut Vec<SiteRow>,
     books: &mut B,

@@ -1,4 +1,4 @@
-//! Starts Modbus reads on the session of a device.
+//! Starts Modbus reads on the Modbus session of a device.
 
 mod output;
 mod starts;

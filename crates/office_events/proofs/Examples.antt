@@ -32,7 +32,8 @@ no_letters = (refl, refl, refl, refl)
 digits_and_dashes : is_name (109 ∷ 48 ∷ 57 ∷ 95 ∷ 45 ∷ []) ≡ true
 digits_and_dashes = refl
 
--- The characters `0` and `_` are not allowed as the first character of a name.
+-- The characters `0` and `_` are not allowed as the first character of a name (of a device, an
+-- accounting register (a named energy counter) or a meter).
 first_digit : (is_name (48 ∷ 109 ∷ []) ≡ false) × (is_name (95 ∷ 109 ∷ []) ≡ false)
 first_digit = (refl, refl)
 

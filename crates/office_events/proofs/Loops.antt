@@ -1,4 +1,5 @@
--- Properties of loops over a list that change an accumulator at each element.
+-- Lemmas about loops over a list that change an accumulator at each element: each iteration keeps
+-- the final result that the loop will have.
 use Rattle.std.proofs.Common.{◌≡◌, ℕ, ◌+◌, ◌<◌, ◌≤◌, suc, List, [], ◌∷◌, length, drop, get_or, add-one, sym, ap, ◌∙◌}
 use Rattle.std.proofs.lemmas.List.{drop_all}
 use Rattle.std.proofs.Math.Seq.{drop-cons}
@@ -12,7 +13,8 @@ one_on run step law xs i x t u z inside item so_far is =
     ap (run (drop (i + 1) xs)) is ∙ sym (law x (drop (i + 1) xs) t) ∙ ap (λ ys. run (x ∷ ys) t) (ap (λ k. drop k xs) (add-one i))
     ∙ ap (λ y. run (y ∷ drop (suc i) xs) t) item ∙ ap (λ ys. run ys t) (sym (drop-cons xs i x inside)) ∙ so_far
 
--- When no element is left, the accumulator is the final result of the loop.
+-- Suppose that a function over a list updates an accumulator, and a loop computes the same. When
+-- the loop has no element left, its accumulator is the function's result.
 pub all_on : {X T : Type 0} (run : List X → T → T) → ((t : T) → run [] t ≡ t) → (xs : List X) (i : ℕ) (t z : T) → length xs ≤ i
     → run (drop i xs) t ≡ z → t ≡ z
 all_on run none xs i t z all so_far = sym (none t) ∙ ap (λ ys. run ys t) (sym (drop_all i xs all)) ∙ so_far

@@ -1,5 +1,5 @@
 -- The numeric codes of refusals and of the causes of a store failure, and the increment of a 64-bit
--- counter.
+-- counter, which stays at 2^64 - 1.
 use Rattle.std.specs.Prelude.{ℕ, ◌+◌, ◌-◌, ◌^◌, min}
 use Rattle.office_events.specs.declared.refusals.Refusal.{Refusal}
 use Rattle.office_events.specs.declared.refusals.Refusal.TheVariants as refusal

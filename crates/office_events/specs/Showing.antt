@@ -1,4 +1,5 @@
--- The report that an observer gets of each event that the program processes.
+-- The report of an event that the program processed: its time, the event, its answer, its
+-- notifications and the frames to send. An observer of the program gets the report.
 use Rattle.std.specs.Prelude.{ℕ, List, Option, Result}
 use Rattle.office_events.specs.declared.answers.Answer.{Answer}
 use Rattle.office_events.specs.declared.answers.Note.{Note}

@@ -1,6 +1,6 @@
-//! Commands that change the records in the program's store: devices, accounting registers, meters
-//! and entries. The program checks the ranges of all numbers in a command. A name is `None` if the
-//! caller's text is not a valid name.
+//! Commands that change the records in the program's store: devices, accounting registers (named
+//! energy counters), meters and meter entries. The program checks the ranges of all numbers in a
+//! command. A name is `None` if the caller's text is not a valid name.
 use crate::names::Name;
 use mb_wire::ReadSpan;
 use read_plan::PlannedList;
@@ -24,13 +24,15 @@ pub struct PutList {
     pub list: PlannedList,
 }
 
-/// The source of an accounting register's scale factor, with a number that the program has not yet
-/// checked.
+/// The source of an accounting register's scale factor: a fixed exponent,
+/// or a Modbus address. The program has not yet checked that the exponent or the address is in its
+/// range.
 #[derive(Clone, Copy, PartialEq, Eq)]
 pub enum GivenScale {
     /// A fixed scale factor: an exponent of ten, -3 to 3.
     Fixed(i64),
-    /// The address (0 to 65535) of the Modbus register in which the device has the scale factor.
+    /// The address (0 to 65535) of the Modbus register from which the program reads the counter's
+    /// scale factor.
     Register(u64),
 }
 
@@ -62,8 +64,8 @@ pub struct Install {
     pub range: u64,
 }
 
-/// The command to close the meter that is installed at an accounting register, and to install
-/// another meter at this register.
+/// The command to close the meter that is installed at an accounting register (a named energy
+/// counter), and to install another meter at this register.
 #[derive(Clone, Copy, PartialEq, Eq)]
 pub struct Exchange {
     pub register: Option<Name>,
@@ -78,8 +80,8 @@ pub struct Exchange {
     pub range: u64,
 }
 
-/// The command to record a counter reset: the counter of an accounting register had reached
-/// `before` and was set to `after`.
+/// The command to record a counter reset: the counter of an accounting register (a named energy
+/// counter) had reached `before` and was set to `after`.
 #[derive(Clone, Copy, PartialEq, Eq)]
 pub struct Reset {
     pub register: Option<Name>,
@@ -109,8 +111,8 @@ pub struct Manual {
     pub at: Option<u64>,
 }
 
-/// The command to close the meter that is installed at an accounting register, with the meter's
-/// last counter value.
+/// The command to close the meter that is installed at an accounting register (a named energy
+/// counter), with the meter's last counter value.
 #[derive(Clone, Copy, PartialEq, Eq)]
 pub struct Close {
     pub register: Option<Name>,
@@ -133,8 +135,8 @@ pub struct StartRound {
     pub from: u64,
 }
 
-/// The command to void (cancel) an entry. `place` is the entry's sequence number among the meter's
-/// entries, where the first entry (the opening) has number 1.
+/// The command to void (cancel) a meter entry. `place` is the entry's sequence number among the
+/// meter's entries, where the first entry (the opening) has number 1.
 #[derive(Clone, Copy, PartialEq, Eq)]
 pub struct VoidEntry {
     pub meter: Option<Name>,

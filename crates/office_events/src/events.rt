@@ -21,14 +21,14 @@ impl Model for Piece {
 impl Piece {
     ghost use Rattle.std.specs.Prelude.{◌≡◌};
 
-    /// Creates a byte string that owns these bytes.
+    /// Creates a byte string that owns the given bytes.
     pub fn new(bytes: Vec<u8>) -> Piece
         ensures { result ≡ bytes.items }
     {
         Piece { bytes }
     }
 
-    /// Returns the bytes as a slice.
+    /// Returns the bytes of the byte string as a slice.
     pub fn as_slice(&self) -> &[u8]
         ensures { result.now ≡ self.now }
     {

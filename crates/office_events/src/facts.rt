@@ -27,7 +27,8 @@ pub struct DeviceList {
     pub list: PlannedList,
 }
 
-/// The source of an accounting register's scale factor (an exponent of ten).
+/// The source of an accounting register's scale factor (an exponent of
+/// ten).
 #[derive(Clone, Copy, PartialEq, Eq)]
 pub enum ScaleSource {
     /// A fixed scale factor: an exponent of ten, -3 to 3.
@@ -86,7 +87,8 @@ pub struct EndedPoll {
     pub outcome: Outcome,
 }
 
-/// An entry of a meter other than its opening (the first entry).
+/// An entry of a meter (a reading, reset, closing or similar) other than its opening (the first
+/// entry).
 #[derive(Clone, Copy, PartialEq, Eq)]
 pub struct BookedEntry {
     pub meter: Name,
@@ -107,7 +109,7 @@ pub struct HeldReading {
     pub cause: Cause,
 }
 
-/// A void: the record that an entry of a meter was wrong and is cancelled.
+/// A void: the record that an entry of a meter (such as a reading) was wrong and is cancelled.
 #[derive(Clone, Copy, PartialEq, Eq)]
 pub struct VoidedEntry {
     pub meter: Name,
@@ -123,11 +125,12 @@ pub struct Reply {
     pub number: u64,
     pub request: Piece,
     pub kind: CommandKind,
-    /// The time of the answer, in seconds since 1970-01-01 UTC.
+    /// The time at which the program answered the request, in seconds since 1970-01-01 UTC.
     pub at: u64,
 }
 
-/// A record that the program writes to its store.
+/// A record that the program writes to its store, such as a new device, a started poll or a meter
+/// entry.
 #[derive(Drop)]
 pub enum Fact {
     Device(Device),

@@ -7,7 +7,7 @@ pub const MAX_NAME: usize = 16;
 /// The maximum number of devices in one store.
 pub const MAX_DEVICES: usize = 64;
 
-/// The maximum number of accounting registers of a device.
+/// The maximum number of accounting registers (named energy counters) of a device.
 pub const MAX_REGISTERS: usize = 32;
 
 /// The maximum number of meters in one store, closed meters included.

@@ -1,4 +1,4 @@
-//! Names of devices, accounting registers and meters.
+//! Names of devices, accounting registers (named energy counters) and meters.
 ghost use Rattle.std.specs.Prelude.{◌≡◌, ℕ, ◌≤◌, ◌-◌, ◌++◌, ◌↔◌, List, length, take};
 ghost use Rattle.std.specs.Prelude.{replicate};
 ghost use Rattle.std.specs.List.{list_all};
@@ -8,8 +8,8 @@ ghost use Rattle.office_events.specs.Names as specs_names;
 use crate::limits::MAX_NAME;
 use std::marker::Model;
 
-/// The name of a device, accounting register or meter: 1 to 16 ASCII letters, digits, `_` or `-`,
-/// with a letter first.
+/// The name of a device, accounting register (a named energy counter) or meter: 1 to 16 ASCII
+/// letters, digits, `_` or `-`, with a letter first.
 #[derive(Clone, Copy, PartialEq, Eq)]
 pub struct Name {
     bytes: [u8; MAX_NAME],
@@ -26,8 +26,8 @@ impl Model for Name {
 
     ghost view = { λ n. take n.len n.bytes };
 
-    // The bytes of the array after the name are zero, so derived equality of the arrays is equality
-    // of the names.
+    // In the 16-byte array of a name, the bytes after the name are zero. Derived equality of the
+    // arrays is therefore equality of the names.
     ghost invariant = { λ n. (n.len ≤ MAX_NAME)
         × (take n.len n.bytes ++ replicate (MAX_NAME - length (take n.len n.bytes)) 0 ≡ n.bytes)
         × (length (take n.len n.bytes) ≡ n.len) × (length n.bytes ≡ MAX_NAME)

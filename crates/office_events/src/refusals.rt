@@ -19,7 +19,8 @@ impl StoreCause {
     ghost use Rattle.std.specs.Prelude.{◌≡◌};
     ghost use Rattle.office_events.specs.Numbers.{store_number};
 
-    /// Returns the numeric code of the cause, which the program does not print.
+    /// Returns the numeric code of the cause of a store failure. The program does not print this
+    /// code.
     pub fn number(self) -> u8
         ensures { result ≡ store_number self }
     {
@@ -44,32 +45,35 @@ impl Display for StoreCause {
 impl Error for StoreCause {}
 
 /// The reason why the program refuses an event or a query. If several reasons apply, the program
-/// reports `Stopped` first, then `Reused`, then the reason with the smallest number. As an
-/// exception, `Store` comes after `NotPlausible`.
+/// reports `Stopped` (it refuses everything) first. Then it reports `Reused` (another request has
+/// this idempotency key), then the reason with the smallest numeric code. As an exception, `Store`
+/// (a failure of the store) comes after `NotPlausible`.
 #[derive(Clone, Copy, Debug, PartialEq, Eq)]
 pub enum Refusal {
-    /// The store has no device, accounting register, meter, point list, entry or poll with this
-    /// name or number.
+    /// The store has no device, accounting register (a named energy counter), meter, point list,
+    /// entry or poll with the given name or number.
     NotFound,
-    /// A device, accounting register or meter already has this name, or the accounting register
-    /// already has an open meter.
+    /// A device, accounting register (a named energy counter) or meter already has the given name,
+    /// or the accounting register already has an open meter.
     Exists,
     /// The event's timestamp is before the timestamp of the latest accepted event.
     ClockBack,
     /// A scale factor (an exponent of ten) is not from -3 to 3.
     BadScale,
-    /// The counter value, with its rollovers added, is less than the meter's last counter value.
+    /// The counter value of the new entry, with its rollovers added, is less than the meter's last
+    /// counter value.
     NegativeStep,
-    /// The meter's last entry has the same or a later timestamp.
+    /// The timestamp of the new entry is not later than the timestamp of the meter's last entry.
     NotLater,
-    /// The time since the meter's last entry covers more than 3,000 quarter hours.
+    /// The time from the meter's last entry to the new entry covers more than 3,000 quarter hours.
     SpanTooLong,
-    /// With this entry the total energy of the meter would exceed its limit of 4 * 10^18 mWh.
+    /// With the new entry, the total energy of the meter would exceed its limit of 4 * 10^18 mWh.
     TotalFull,
-    /// The meter that was installed at the accounting register is closed.
+    /// The meter that was installed at the accounting register (a named energy counter) is closed.
     Ended,
-    /// The device is not connected or is already connected. Or it can start no further poll, for
-    /// example because too many of its polls wait for responses.
+    /// For an event of a device's connection: the device is not connected, or is already connected.
+    /// For a command that starts polls: the device is not connected, or too many of its polls wait
+    /// for responses.
     Busy,
     /// The caller already used this idempotency key for a different request.
     Reused,
@@ -80,14 +84,14 @@ pub enum Refusal {
     Store(StoreCause),
     /// Memory ran out.
     Memory,
-    /// The program stopped earlier, because the store failed, or memory ran out while the program
-    /// processed the outcomes of polls.
+    /// The program stopped earlier (it refuses everything), because the store failed, or memory ran
+    /// out while the program processed the outcomes of polls.
     Stopped,
-    /// The entry is already voided (cancelled), or the entry or the next valid entry is not a
-    /// reading from the device.
+    /// The meter entry to void is already voided (cancelled), or this entry or the next entry that
+    /// is not voided is not a reading from the device.
     NotVoidable,
-    /// Without the entry to void (cancel), the program would have rejected the next entry for this
-    /// cause.
+    /// Without the entry to void (cancel), the program would have rejected the next entry for the
+    /// given cause.
     NotPlausible(Cause),
 }
 

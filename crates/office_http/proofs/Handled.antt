@@ -38,7 +38,7 @@ keeps_append (Some x) None h = absurd h
 keeps_append (Some x) (Some y) h = h ∙ sym (append-nil x)
 
 -- If nothing was written to the client's connection between two times, then the bytes written since
--- either of the two times are the same.
+-- the first time equal the bytes written since the second time.
 pub gives_since : (sent : Result (Unit {0}) LinkFailed) (a b c : Option (List ℕ)) (bytes : List ℕ) → Keeps a b → Gives sent b c bytes → Gives sent a c bytes
 gives_since (Ok x) a b c bytes h gives = Appends-trans a b c [] bytes (keeps_append a b h) gives
 gives_since (Err e) a b c bytes h gives = (gives.0, gives.1, gives.2, Appends-trans a b c [] gives.0 (keeps_append a b h) gives.3)
@@ -67,8 +67,8 @@ head_of table TooLarge bytes h = record { head_state = TooLarge; finds = h; come
 head_of table NoHead bytes h = record { head_state = NoHead; finds = h; come = refl }
 head_of table (Whole at) bytes h = record { head_state = Whole at; finds = h.head; come = refl }
 
--- Lemmas: if a call of `handle` fails to read its request, the call writes nothing and leaves the
--- program's state unchanged.
+-- Lemmas: if a call of `handle` (which serves one request) fails to read its request, the call
+-- writes nothing and leaves the program's state unchanged.
 
 pub read_failed : {B : Type 0} (ledger : B → Ledger) (at : ℕ) (office : Office B) (fault : TakeFault) (old new : List ℕ) (remaining later given later_given : Option (List ℕ))
     (last : Option LastTake) → old ≡ [] → ReadsRequest routes (Err fault) old new remaining later → Keeps given later_given
@@ -149,7 +149,8 @@ replied ledger at old new inbox full seen result remaining mid later given given
     }
 
 -- Lemmas on a response writer, from its creation with an empty buffer until all buffered bytes were
--- written.
+-- written to the client's connection. Serving the request then ends with success, a failed write or
+-- a response that was cut off.
 
 pub write_first : (base given : Option (List ℕ)) (out : Outgoing) → out.given ≡ given → out.buffered ≡ [] → Keeps base given → HasPut base out []
 write_first base given out is none keeps = record {
@@ -218,7 +219,7 @@ pub finished_takes : (first put last : Outgoing) (sent : Result (Unit {0}) LinkF
     → IsFinished first put last sent → first.takes ≡ before → after ≡ last.takes → after ≡ before
 finished_takes first put last sent before after done from to = to ∙ done.finish.takes ∙ done.puts.takes ∙ from
 
--- Lemmas on the number of reads from the client's connection.
+-- Lemmas: the program reads at most 100,000 times from the client's connection for one request.
 
 -- A new input buffer reads at most 100,000 times from the client's connection. The connection's
 -- count of reads rises by at most that number.

@@ -1,4 +1,5 @@
--- Lemmas on energy reports that are streamed row by row as HTTP responses.
+-- Lemmas: an energy report that is streamed row by row as an HTTP response is complete, only
+-- reports a refusal, or is cut off after some rows.
 use Rattle.std.proofs.Common.{◌≡◌, ◌∙◌, ◌⊎◌, true, ℕ, zero, suc, ◌+◌, ◌<◌, ◌≤◌, List, [], ◌∷◌, ◌++◌, length, take, drop, Option, Some, None, Result, Ok, Err, inl, inr, refl, sym, ap, subst, arith, append_assoc}
 use Rattle.std.specs.Prelude.{flat_map}
 use Rattle.std.specs.Option.{option_and_then}
@@ -42,7 +43,7 @@ most = 18446744073709551615
 abbrev pub report_text : {T : Type 0} → (line : T → List ℕ) → List T → List ℕ
 report_text line rows = flat_map line rows ++ end_line (length rows)
 
--- True if the row visitor writes a row as one line of the report.
+-- True if a function that visits one row of a report writes this row as one line of the report.
 abbrev pub takes_lines : {T : Type 0} → (line : T → List ℕ) → Report → T → Report → Type 0
 takes_lines line old row new = PutsLine (line row) old new
 
@@ -99,7 +100,7 @@ some_rows n count is = grind (arith, nat_tests)
 below : {n : ℕ} → n < 18446744073709551616 → n ≤ most
 below h = omega (arith, h)
 
--- The result `Ok` of a query whose rows were all reported.
+-- The result `Ok` of a query for rows: the sink (the consumer of the rows) got all rows.
 abbrev whole_answer : Unit {0} → Result (Unit {0}) Refusal
 whole_answer x = Ok x
 

@@ -25,13 +25,15 @@ use Rattle.office_http.specs.Wants.Wanting.{AsksNothing, IsAskedFor, IsNoCommand
 use Rattle.office_http.specs.Answering.{AnswersAt, reported}
 use Rattle.office_http.specs.Serving.{Lasts, Serves}
 
--- If neither a query nor a command was executed, then the store has the same records as before.
+-- If neither a query nor a command was executed for a request, then the store has the same records
+-- as before the request.
 keeps_same : {B : Type 0} (ledger : B → Ledger) (old new : Run B) → new ≡ old → KeepsFacts (ledger (books_in old)) (ledger (books_in new))
 keeps_same {B} ledger old new same =
     subst (λ (o : Run B). KeepsFacts (ledger (books_in old)) (ledger (books_in o))) (sym same) (record { facts = λ known h. h; left = λ left may. may })
 
--- True if a query did not change the program's state, which is still the state after the events of
--- `past`. Also requires that a crash after the query leaves the store with the same records.
+-- True if a query did not change the program's state, which is still the state after the events
+-- accepted before the query (`past`). Also requires that a crash after the query leaves the store
+-- with the same records as before the query.
 pub record StandsStill {B : Type 0} (ledger : B → Ledger) (past : History) (old new : Run B) : Type 0 where
   pub stands : Stands ledger past new
   pub keeps : KeepsFacts (ledger (books_in old)) (ledger (books_in new))
@@ -40,8 +42,8 @@ pub still : {B T : Type 0} (ledger : B → Ledger) (past : History) (old new : R
     → Stands ledger past old → StandsStill ledger past old new
 still ledger past old new answer asks stands = record { stands = asks.stands past stands; keeps = asks.keeps }
 
--- If nothing was executed, and the response does not depend on the program's state, then `Serves`
--- holds, the contract of serving a request.
+-- If no query and no command was executed, and the response does not depend on the program's state,
+-- then `Serves` holds, the contract of serving a request.
 pub reported_off : {B : Type 0} (ledger : B → Ledger) (past : History) (at : ℕ) (read : List ℕ) (old new : Run B) (text : List ℕ)
     → new ≡ old → AsksNothing routes read → ((office : Office) → IsReply office routes read text) → Stands ledger past old
     → Serves ledger past at read old new None text
@@ -71,7 +73,7 @@ no_memory ledger past at read old new same stands = record {
 }
 
 -- If the program answered or refused a query for one object (such as a meter), the response with
--- this answer satisfies `Serves`.
+-- this answer satisfies `Serves`, the contract of serving a request.
 pub row_reported : {B T : Type 0} (ledger : B → Ledger) (past : History) (at : ℕ) (read : List ℕ) (old new : Run B) (text : T → List ℕ)
     (found : Option T) (answer : Result T Refusal) → IsRowFound found (failures_of ledger old) (failures_of ledger new) answer
     → AsksNothing routes read → ((office : Office) → AnswersAt (ledger (books_in old)).zone past at office → IsReply office routes read (reply_bytes (row_reply text (or_not_found found))))
@@ -142,14 +144,14 @@ or_none : (b : Bool) → (b || false) ≡ b
 or_none true = refl
 or_none false = refl
 
--- After a command was executed, the program refuses all events exactly if it did so before. The
--- program's time zone is unchanged (`Lasts`).
+-- After a command was executed, the program refuses all events exactly if it refused all events
+-- before the command. The program's time zone is unchanged (`Lasts`).
 pub lasts_fed : {B : Type 0} (ledger : B → Ledger) (old new : Run B) (asked : Asked) (answer : Result Answer Refusal)
     → Ends ledger old new (event.Asked asked) answer → Lasts ledger old new
 lasts_fed ledger old new asked answer ends = record { stopped = ends.stops ∙ or_none (is_stopped old); clean = ends.clean; zone = ends.zone }
 
--- After a query was answered, the program refuses all events exactly if it did so before. The
--- program's time zone is unchanged (`Lasts`).
+-- After a query was answered, the program refuses all events exactly if it refused all events
+-- before the query. The program's time zone is unchanged (`Lasts`).
 pub lasts_asked : {B T : Type 0} (ledger : B → Ledger) (old new : Run B) (answer : Result T Refusal) → OnlyAsks ledger old new answer → Lasts ledger old new
 lasts_asked ledger old new answer asks = record { stopped = asks.stays; clean = asks.clean; zone = asks.zone }
 

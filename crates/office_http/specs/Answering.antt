@@ -1,4 +1,5 @@
--- The program's answers to queries and commands, if its store and memory do not fail.
+-- The answers that the office (the event engine) must give to queries and to the commands of HTTP
+-- requests, if its store and memory do not fail.
 use Rattle.std.specs.Prelude.{◌≡◌, ℕ, List, map, Option, Some, None, Result, Ok, Err}
 use Rattle.std.specs.Option.{option_and_then}
 use Rattle.interval_core.specs.Days.{account_of}
@@ -21,8 +22,9 @@ use Rattle.office_core.specs.Asking.{AreDaysNamed, intervals_of, or_not_found}
 use Rattle.office_http.specs.Messages.Kinds.{kind_answered}
 use Rattle.office_http.specs.Messages.Offices.{Office}
 
--- The kind of an executed command. Without a kind, the result is the refusal `Damaged`, because
--- only a store that returned wrong data leads to an answer without a kind.
+-- The kind of an executed command. Without a kind, the result is the refusal `Damaged`
+-- (inconsistent data), because only a store that returned wrong data leads to an answer without a
+-- kind.
 abbrev pub or_damaged : Option CommandKind → Result CommandKind Refusal
 or_damaged None = Err (refusal.Store store.Damaged)
 or_damaged (Some kind) = Ok kind
@@ -32,8 +34,8 @@ abbrev pub reported : Result Answer Refusal → Result CommandKind Refusal
 reported (Ok answer) = or_damaged (kind_answered answer)
 reported (Err why) = Err why
 
--- True if the store has an accounting register (a named energy counter) with this name. A missing
--- name matches no register.
+-- True if the store has an accounting register (a named energy counter) with the given name. A
+-- missing name matches no register.
 abbrev pub IsRegister : List Fact → (name : Option (List ℕ)) → Type 0
 IsRegister facts name = option_and_then (register_of facts) name ≡ None → ⊥
 
@@ -47,7 +49,8 @@ pub record AnswersDays (zone : Zone) (facts : List Fact)
       → answer name ≡ Err refusal.NotFound
 
 -- States the program's answers at the time `at`. Answers to queries follow from the records of the
--- events that the program accepted earlier. Answers to commands follow from the rules for commands.
+-- events accepted before (`past`). Answers to commands follow from the specification, which accepts
+-- or refuses each command.
 pub record AnswersAt (zone : Zone) (past : History) (at : ℕ) (office : Office) : Type 0 where
   pub meter : (name : Option (List ℕ))
       → office.meter name ≡ or_not_found (option_and_then (meter_of (facts_of past)) name)

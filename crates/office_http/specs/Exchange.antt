@@ -75,7 +75,8 @@ pub record Passage : Type 0 where
   pub later_given : Option (List ℕ)
   pub last : Option LastTake
 
--- The model of a client's connection before and after a call, composed of its five parts.
+-- The model of a client's connection before and after a call. Its five parts are the bytes to
+-- deliver and the bytes written, each before and after the call, and the last read.
 abbrev pub passage : (remaining later_remaining given later_given : Option (List ℕ))
     → Option LastTake
     → Passage
@@ -98,8 +99,8 @@ pub record HasHead (read : List ℕ) : Type 0 where
   pub finds : Looks read head_state
   pub come : is_open head_state ≡ false
 
--- True if the program wrote the response to the bytes `read`. If a write failed, the client
--- received only a prefix of the response.
+-- True if the program wrote the response to the request bytes `read` to the client's connection. If
+-- a write failed, the client received only a prefix of the response.
 pub record GivesReply {B : Type 0} (ledger : B → Ledger) (past : History) (at : ℕ)
     (old new : Office B)
     (given later_given : Option (List ℕ)) (read : List ℕ) (result : Result (Unit {0}) HandleFault)
@@ -111,8 +112,8 @@ pub record GivesReply {B : Type 0} (ledger : B → Ledger) (past : History) (at 
   pub serves : Serves ledger past at read old new cut put
   pub gives : Gives sent given later_given put
 
--- True if the program wrote the response to the bytes `read`, given the history `past` of the
--- events that the program accepted earlier.
+-- True if the program wrote the response to the request bytes `read`, as the history `past`
+-- determines it: the events that the program accepted before.
 abbrev pub GivesReplyTo : {B : Type 0} → (read : List ℕ) → (B → Ledger) → (at : ℕ)
     → (old new : Office B) → (given later_given : Option (List ℕ)) → Result (Unit {0}) HandleFault
     → History → Type 0
@@ -135,7 +136,8 @@ pub record ReadsOn {B : Type 0} (old new : Office B) (link : Passage) (read : Li
   pub nothing : Keeps link.given link.later_given
   pub unchanged : new ≡ old
 
--- States the effect of a call of `handle` that read the bytes `read`, for each result of the call.
+-- States the effect of a call of `handle` (which serves one request) that read the bytes `read`,
+-- for each result of the call.
 abbrev pub Does : {B : Type 0} → (B → Ledger) → (at : ℕ) → (old new : Office B) → Passage
     → (read : List ℕ) → Result (Unit {0}) HandleFault → Type 0
 Does ledger at old new link read (Ok x) = Replies ledger at old new link read (Ok x)
@@ -146,8 +148,8 @@ Does ledger at old new link read (Err Short) =
     ReadsOn old new link read × IsAtEnd link.later_remaining
 Does ledger at old new link read (Err TurnsUsed) = ReadsOn old new link read
 
--- True if the call of `handle` read some bytes from the client's connection, and `Does` holds for
--- these bytes and the call's result.
+-- True if the call of `handle`, which serves one request, read some bytes from the client. Their
+-- effect must be the one that `Does` states for the result of the call.
 pub record Handles {B : Type 0} (ledger : B → Ledger) (at : ℕ) (old new : Office B) (link : Passage)
     (result : Result (Unit {0}) HandleFault) : Type 0 where
   pub read : List ℕ
@@ -156,8 +158,9 @@ pub record Handles {B : Type 0} (ledger : B → Ledger) (at : ℕ) (old new : Of
 
 -- True if the connection's count of failures rises by one exactly when a read or a write failed.
 --
--- The call made at most 100,000 reads, and exactly that many if it ended with the fault TurnsUsed.
--- The counts saturate at 2^64 - 1.
+-- A call of `handle` (which serves one request) read at most 100,000 times from the client's
+-- connection. It read exactly that many times if it ended with the fault TurnsUsed. The
+-- connection's count of reads saturates at 2^64 - 1.
 pub record CountsLink (result : Result (Unit {0}) HandleFault)
     (failed later_failed taken later_taken : ℕ)
     : Type 0 where
@@ -183,7 +186,8 @@ pub record ReadsOnBare (link : Passage) (read : List ℕ) : Type 0 where
   pub goes_on : IsUnfinished routes read
   pub nothing : Keeps link.given link.later_given
 
--- States the effect of serving a request for which memory ran out, for each result of the function.
+-- States the effect of serving a request for which memory ran out, for each result of the function
+-- that serves the request.
 abbrev pub DoesBare : Passage → (read : List ℕ) → Result (Unit {0}) HandleFault → Type 0
 DoesBare link read (Ok x) = RepliesBare link read (Ok x)
 DoesBare link read (Err Write) = RepliesBare link read (Err Write)
@@ -192,8 +196,9 @@ DoesBare link read (Err Read) = ReadsOnBare link read
 DoesBare link read (Err Short) = ReadsOnBare link read × IsAtEnd link.later_remaining
 DoesBare link read (Err TurnsUsed) = ReadsOnBare link read
 
--- True if the program had no memory for the request, read some bytes from the client's connection,
--- and `DoesBare` holds for these bytes.
+-- True if the program had no memory for a request, and read some bytes from the client's
+-- connection. If these had a complete or invalid head, it wrote the response that memory ran out,
+-- otherwise nothing.
 pub record HandlesBare (link : Passage) (result : Result (Unit {0}) HandleFault) : Type 0 where
   pub read : List ℕ
   pub takes : Consumes link.remaining link.later_remaining read

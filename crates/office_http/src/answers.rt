@@ -17,8 +17,8 @@ use office_books::{Books, facts_are_lawful};
 use office_core::Office;
 use office_events::{Answer, Asked, CommandKind, Event, Name, Refusal, StoreCause};
 
-// Converts the program's answer to a command into the command's kind. The answer `Noted` belongs to
-// no command, so this function reports it as a damaged store.
+// Converts the program's answer to a command into the command's kind. The answer `Noted` (to an
+// event without a command) belongs to no command, so this function reports it as a damaged store.
 fn command_result(answer: Result<Answer, Refusal>) -> Result<CommandKind, Refusal>
     ensures { result ≡ answering.reported answer }
 {
@@ -45,7 +45,7 @@ fn write_asked<'l, L: Link, B: Books>(
     Replied { writer, cut: None }
 }
 
-// Queries the poll with this number from the store, and writes the response to the client's
+// Queries the poll with the given number from the store, and writes the response to the client's
 // connection.
 fn write_poll_asked<'l, L: Link, B: Books>(
     bytes: &[u8],

@@ -104,9 +104,9 @@ fn serve<L: Link, B: Books>(
 /// Serves one HTTP/1.1 request: reads the request from a client's connection, executes it, and
 /// writes the response.
 ///
-/// `moment` is in seconds since 1970-01-01 UTC. If the response to an accepted command cannot be
-/// written, the command stays executed. A retry with the same idempotency key gets the stored
-/// answer.
+/// `moment` is the timestamp of the request, in seconds since 1970-01-01 UTC. If the response to an
+/// accepted command cannot be written, the command stays executed. A retry with the same
+/// idempotency key gets the stored answer.
 pub fn handle<L: Link, B: Books>(
     alloc: Global,
     link: &mut L,

@@ -25,7 +25,8 @@ pub enum HandleFault {
 impl HandleFault {
     ghost use Rattle.office_http.specs.Exchange.{fault_number};
 
-    /// Returns the numeric code of the reason. No output of the program contains this code.
+    /// Returns the numeric code of the reason why a request was not served. No output of the
+    /// program contains this code.
     pub fn number(self) -> u8
         ensures { result ≡ fault_number self }
     {

@@ -67,7 +67,7 @@ never p [] h = refl
 never p (x ∷ xs) h = rw (h x) (never p xs h)
 
 -- True if `why` is a reason to refuse the event `Gone` (the device is disconnected), for example a
--- wrong timestamp.
+-- timestamp before the latest accepted event.
 abbrev GoneRefused : (slots : List Slot) → (latest at : ℕ) → Option (List ℕ) → Closing → Refusal → Bool
 GoneRefused slots latest at given c why = is_mistimed latest at why || comes_wrongly slots (event.Gone given c) why
 
@@ -110,8 +110,9 @@ gone_or_absent history at given c None reply is on_time within reported =
 gone_or_absent history at given c (Some why) reply is on_time within reported =
     rw reported (none_waits given history (λ slot found. absent_by history at given c why slot slot.present refl on_time within found is))
 
--- Suppose that the timestamp of the event `Gone` (the device is disconnected) is valid. Then after
--- this event no poll of the device is pending, or the store or memory failed.
+-- Suppose that the timestamp of the event `Gone` (the device is disconnected) is not before the
+-- latest accepted event, and not past the largest supported timestamp. Then after this event no
+-- poll of the device is pending, or the store or memory failed.
 pub gone : (history : History) (at : ℕ) (given : Option (List ℕ)) (c : Closing) (before after : Failures) (reply : Result Answer Refusal)
     → nat_lt at (latest_of history) ≡ false → nat_lt moment_limit at ≡ false → IsAnswer history at (event.Gone given c) before after reply
     → NoneWaits given (with_answer history at (event.Gone given c) reply) ⊎ FailsOutside (IsAccepted history at (event.Gone given c)) before after reply
@@ -119,8 +120,8 @@ gone history at given c before after reply on_time within (inl reported) =
     inl (gone_or_absent history at given c (refusal_of history at (event.Gone given c)) reply refl on_time within reported.0)
 gone history at given c before after reply on_time within (inr fails) = inr fails
 
--- If the event `Gone` (the device is disconnected) is accepted, then none of the device's polls is
--- pending.
+-- If the event `Gone` (the device is disconnected) is accepted, then afterwards none of the
+-- device's polls is pending (without an outcome).
 pub gone_accepted : (history : History) (at : ℕ) (given : Option (List ℕ)) (c : Closing) (before after : Failures) (reported : Answer)
     → with_answer history at (event.Gone given c) (Ok reported) ≡ Fed at (event.Gone given c) ∷ history
     → NoneWaits given (with_answer history at (event.Gone given c) (Ok reported))

@@ -1,4 +1,5 @@
--- Properties of the last event of a polling round that ended early because of a fault.
+-- Proofs that a polling round that a fault ended early feeds its last event (`Gone`, the device is
+-- disconnected) as `Closes` requires, the contract for ending the round.
 use Rattle.std.proofs.Common.{◌≡◌, ◌⊎◌, inl, inr, ℕ, nat_lt, ◌||◌, Bool, true, false, List, ◌∷◌, ◌++◌, Option, Result, Ok, Err, refl, sym, ap, ◌∙◌, subst}
 use Rattle.std.specs.Io.KnownBytes.{Appends}
 use Rattle.std.proofs.KnownBytes.{Appends-trans}
@@ -74,8 +75,8 @@ abbrev pub gone_one : (device : Option (List ℕ)) → (at : ℕ) → Result Ans
 gone_one device at reply = record { at = at; event = event.Gone device closing.Failed; result = reply }
 
 -- Suppose that a fault ended a polling round early, the event engine processed the round's last
--- event, and the event's report was printed as required. Then `Closes`, the contract for ending the
--- round, holds.
+-- event, and the event's report was printed, completely or in part. Then `Closes`, the contract for
+-- ending the round, holds.
 pub closes : {B : Type 0} (ledger : B → Ledger) (device : Option (List ℕ)) (past : History) (begun was now : RoundState) (before office : Office B)
     (earlier : List Answered) (round : Progress) (cause fault : RoundFault) (moment at : ℕ) (reply : Result Answer Refusal)
     → Broken ledger device past begun was before earlier round cause → ReportsMoment was.moments now.moments moment

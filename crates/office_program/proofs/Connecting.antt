@@ -22,8 +22,8 @@ use Rattle.office_program.specs.declared.device_rounds.round.Round.{Round}
 use Rattle.office_program.specs.declared.progress.Progress.{Progress}
 use Rattle.office_program.proofs.Timely.{one_accepted}
 
--- The state of a polling round after the office (the event engine) accepted its first event,
--- `Connected`.
+-- The state of a polling round after the office (the event engine) accepted the round's first
+-- event: `Connected`, which reports that the device is connected.
 pub record Connected (device : Option (List ℕ)) (past : History) (at : ℕ) (given : Answer) (new : Progress) : Type 0 where
   pub holds : Holds device past (connection device at (Ok given) ∷ []) new.round
   pub latest : new.latest ≡ latest_of (history_with past (connection device at (Ok given) ∷ []))

@@ -1,5 +1,5 @@
--- Properties of the state after a command used an office (the engine that records meters' energy)
--- that was opened over a store.
+-- Lemmas: if a command of `sunreg` (such as a report) opened an office (the event engine) over a
+-- store and used it, the store and the output satisfy the command's contract.
 use Rattle.std.proofs.Common.{◌≡◌, inr, ℕ, List, Option, ◌∷◌, subst}
 use Rattle.command_io.specs.declared.status.ExitStatus.{ExitStatus}
 use Rattle.office_events.specs.Names.{named}
@@ -28,8 +28,9 @@ use Rattle.office_program.specs.PortRound.{PollsPort, ReportsPolling}
 use Rattle.office_program.specs.declared.port_round.PollEnd.{PollEnd}
 use Rattle.office_program.specs.declared.port_round.PollEnd.TheVariants as polling
 
--- Suppose that the store that a command returns is clean: no wrong result of the store was used.
--- Then the store was also clean directly after the command's action.
+-- Suppose that the store that a command of `sunreg` returns is clean: no wrong result of the store
+-- was used. Then the store was also clean directly after the command used the office (the event
+-- engine).
 kept : {B : Type 0} (ledger : B → Ledger) (left : Office B) (back : B) → back ≡ books_in left → (ledger back).is_clean
     → (ledger (books_in left)).is_clean
 kept {B = B} ledger left back is clean = let P : B → Type 0 = λ b. (ledger b).is_clean in subst P is clean

@@ -26,7 +26,7 @@ abbrev desk : List ℕ
 desk = codes "desk"
 
 -- Example: a meter that counts Wh, with a ceiling (greatest power) of 100 kW, assigned to an
--- accounting register. The ceiling allows 100,000 counts an hour.
+-- accounting register (a named energy counter). The ceiling allows 100,000 counts an hour.
 
 abbrev opening : (sf : ℤ) → (raw range : ℕ) → Opening
 opening sf raw range = record { meter = m1; register = main; ceiling = 100000; range = range; at = 1000; raw = raw; sf = sf }
@@ -57,8 +57,9 @@ exchange last rolls = command.Exchange (record {
   range = 4294967296;
 })
 
--- An hour after the last entry, 100,001 more counts need no confirmation. At the last entry, the
--- counter may have been about to advance, so the first count may need no energy.
+-- An hour after the meter's last entry, a manual entry with 100,001 more counts needs no
+-- confirmation. At the last entry, the counter may have been about to advance, so the first count
+-- may need no energy.
 the_most_in_an_hour : doubted_at 4600 (manual 105001 0 None) wh ≡ None
 unfolding unit_of
 the_most_in_an_hour = refl
@@ -72,7 +73,7 @@ unfolding unit_of
 a_second_later = refl
 
 -- If a manual entry is for a time half an hour after the last entry, then it needs a confirmation
--- above 50,001 counts.
+-- only above 50,001 more counts.
 the_most_half_an_hour_ago : doubted_at 4600 (manual 55001 0 (Some 2800)) wh ≡ None
 unfolding unit_of
 the_most_half_an_hour_ago = refl
@@ -81,8 +82,9 @@ one_more_half_an_hour_ago : doubted_at 4600 (manual 55002 0 (Some 2800)) wh ≡ 
 unfolding unit_of
 one_more_half_an_hour_ago = refl
 
--- The rule for manual readings also applies to the last reading of a closed or exchanged meter, and
--- to readings before a reset or rescaling. These readings may need a confirmation.
+-- Examples: a manual reading that would record more energy than the meter's power limit allows
+-- needs a confirmation. The same rule holds for the last reading of a closed or exchanged meter,
+-- and for readings before a reset or rescaling.
 the_most_before_an_exchange : doubted_at 4600 (exchange 105001 0) wh ≡ None
 unfolding unit_of
 the_most_before_an_exchange = refl
@@ -117,11 +119,11 @@ one_more_before_another_scale :
 unfolding unit_of
 one_more_before_another_scale = refl
 
--- If the entry reports a rollover, then the counts up to the rollover are added to the counts after
--- it.
+-- If a manual entry reports a rollover, then the counts up to the rollover are added to the counts
+-- after the rollover.
 --
--- The example's counter rolls over at 65,536 and counts thousandths of a Wh. A second ago it showed
--- 65,000.
+-- The counter of this example rolls over at 65,536 and counts thousandths of a Wh. One second
+-- before the manual entry it showed 65,000.
 the_most_over_a_turn : doubted_at 1001 (manual 27242 1 None) (meter (negsuc 2) 65000 65536) ≡ None
 unfolding unit_of
 the_most_over_a_turn = refl
@@ -134,8 +136,9 @@ another_turn : doubted_at 1001 (manual 27242 2 None) (meter (negsuc 2) 65000 655
 unfolding unit_of
 another_turn = refl
 
--- If the office (the event engine) refuses a manual entry because it is not later or decreases the
--- counter, the entry needs no confirmation. Commands without a manual entry need no confirmation.
+-- If the office (the event engine) refuses a manual entry because it is not later than the last
+-- entry or decreases the counter, the entry needs no confirmation. Commands without a manual entry
+-- need no confirmation.
 no_later : doubted_at 1000 (manual 4000000000 0 None) wh ≡ None
 unfolding unit_of
 no_later = refl

@@ -1,4 +1,5 @@
--- Properties of the state of a polling round after one more event.
+-- Proofs that a polling round continues after an event that was accepted and printed, and ends
+-- early after any other event.
 use Rattle.std.proofs.Common.{◌≡◌, inl, ℕ, Bool, List, [], ◌∷◌, ◌++◌, Option, Result, Ok, Err, refl, sym, ap, ◌∙◌, subst}
 use Rattle.std.proofs.KnownBytes.{Appends-trans}
 use Rattle.std.specs.Io.KnownBytes.{Appends}

@@ -1,5 +1,6 @@
--- Proof that after each event a value of the type `Round` has the state that the definition `Holds`
--- requires. The round therefore generates the required next event.
+-- Proof that after each event a polling round (a value of the type `Round`) is in the state that
+-- follows from its events. The round therefore generates the next event that the specification
+-- gives.
 use Rattle.std.proofs.Common.{◌≡◌, ◌⊎◌, inl, inr, ℕ, zero, suc, ◌+◌, ◌-◌, ◌^◌, min, ◌<◌, ◌≤◌, ◌==◌, nat_le, nat_lt, not, Bool, true, false, cond, List, [], ◌∷◌, ◌++◌, length, map, Option, Some, None, Ok, refl, sym, ap, ◌∙◌, subst, arith}
 use Rattle.std.specs.List.{count_by, filter}
 use Rattle.std.specs.Option.{is_none, option_and_then}
@@ -56,8 +57,9 @@ use Rattle.office_program.proofs.Starts.{can_be_started, ends_kept, few_sent, na
 use Rattle.office_program.proofs.Timely.{connected_noted}
 use Rattle.office_program.proofs.Reported.{ends_settled, reported, waits_reported}
 
--- The earlier theorems that the proof on polling rounds uses. They concern the polls since a
--- connection, accepted events, and the store's records.
+-- The theorems that the proof on polling rounds assumes. In accepted events, each poll ends once,
+-- and polls and outcomes have a permitted order. The records obey the rules for adding records, and
+-- the polls of one connection obey the laws of a polling session.
 pub record Laws : Type 0 where
   pub session : SessionLaws
   pub once : (history : History) → AreAccepted history → PollsEndOnce history
@@ -77,8 +79,8 @@ round_at device stage polls started planned sum = record {
 -- The stage of a waiting polling round after the office (the event engine) reported outcomes of
 -- polls.
 --
--- If no poll of the round ended, the round still waits. Otherwise it starts the remaining Modbus
--- reads, ends, or waits for its other polls.
+-- If no poll of the polling round ended, the round still waits. Otherwise the round starts the
+-- remaining Modbus reads, ends, or waits for its other polls.
 abbrev stage_by : (none start leave : Bool) → Stage
 stage_by none start leave = cond none Waiting (cond start Starting (cond leave (Leaving closing.Gone) Waiting))
 
@@ -115,7 +117,8 @@ stands_by false true leave device past fed round way = way
 stands_by false false true device past fed round way = refl
 stands_by false false false device past fed round way = way
 
--- The number of pending polls is smaller than before if and only if a poll has ended.
+-- The number of pending polls is smaller after an event than before the event if and only if the
+-- event has ended a poll.
 fewer : (after before endings : ℕ) → before ≡ after + endings → nat_lt after before ≡ not (endings == 0)
 fewer after before endings is =
     elim (cases_eq endings 0) [
@@ -127,7 +130,8 @@ fewer after before endings is =
           lt-ltb after before more ∙ sym (ap not (ne_eqb endings 0 some))
     ]
 
--- If all Modbus reads were started, then no poll is pending if and only if all polls have ended.
+-- If a polling round has started all of its Modbus reads, then none of its polls is pending if and
+-- only if all of its polls have ended.
 all_ended : (started planned ended left : ℕ) → ended + left ≡ started → started ≤ planned → nat_lt started planned ≡ false
     → (left == 0) ≡ nat_le planned ended
 all_ended started planned ended left sum within none =
@@ -156,9 +160,9 @@ quiet_note first (note.Outcome poll outcome) h = absurd (let no = h poll in let 
 quiet_note first (note.Reading meter raw rolls step) h = refl
 quiet_note first (note.Held meter raw cause) h = refl
 
--- Suppose that no outcome is reported for polls with numbers after the round's last poll. Then each
--- outcome that is reported for a number from the round's first poll on belongs to a poll of the
--- round.
+-- Suppose that no outcome is reported for polls with numbers after the polling round's last poll.
+-- Then each outcome that is reported for a number from the round's first poll on belongs to a poll
+-- of the round.
 ends_reported : (first : Option ℕ) (number started : ℕ) (notes : List Note) → IsFirst first number started
     → ((n : ℕ) → number + started ≤ n → reported n notes ≡ 0) → count_by (is_ending first) notes ≡ reported_from number started notes
 ends_reported None number started notes is beyond =
@@ -458,7 +462,8 @@ started_round laws device past fed at before after given polls started planned s
     (started_as laws device past fed at polls started planned sum way is_past.accepted
     (record { accepted = is_past.accepted.1; planned = is_past.planned.1 }))
 
--- If the event engine accepts an event from the link, then it answers `Noted`.
+-- If the event engine accepts an event from the link (the connection to the device), then its
+-- answer is `Noted` (an event that is not a command was accepted).
 pub noted_by : (history : History) (at : ℕ) (device : Option (List ℕ)) (e : Event) (before after : Failures) (given : Answer) → IsTaken device e
     → IsAnswer history at e before after (Ok given) → given ≡ answer.Noted
 noted_by history at device (event.Connected d) before after given taken reported = absurd taken
@@ -471,8 +476,8 @@ noted_by history at device (event.Gone d cause) before after given taken (inr fa
 noted_by history at device (event.Command c) before after given taken reported = absurd taken
 noted_by history at device (event.Asked asked) before after given taken reported = absurd taken
 
--- True if the polling round has the defined state after the next event, which the event engine
--- accepted with the answer `given`.
+-- True if the polling round is in the state that follows from all its events, after the next event,
+-- which the event engine accepted with the answer `given`.
 abbrev HoldsAfter : (device : Option (List ℕ)) → History → List Answered → (at : ℕ) → Event → Round → Answer → Type 0
 HoldsAfter device past fed at e round given =
     Holds device past (fed_one at e (Ok given) ∷ fed) (round_after e given (notes_after (history_with past fed) at e (Ok given)) round)
@@ -528,8 +533,9 @@ by_stage laws device past fed at e before after given (Leaving cause) polls star
     subst (λ x. HoldsAfter device past fed at x (round_at device (Leaving cause) polls started planned sum) given) (sym does)
     (record { device_is = refl; next = refl; stands = tt })
 
--- Suppose that a polling round is in its defined state, and the event engine accepts the round's
--- next event. Then the round is in its defined state after this event.
+-- Suppose that the state of a polling round follows from the events that the round fed to the event
+-- engine. If the engine accepts the round's next event, then the round's state after it follows
+-- from all events up to and including this event.
 pub holds_on : (laws : Laws) (device : Option (List ℕ)) (past : History) (fed : List Answered) (round : Round) (at : ℕ) (e : Event) (before after : Failures)
     (given : Answer) → Holds device past fed round → Does device (next_in past fed) e
     → IsAnswer (history_with past fed) at e before after (Ok given) → IsPast (Fed at e ∷ history_with past fed)

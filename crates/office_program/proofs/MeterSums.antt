@@ -1,5 +1,5 @@
--- Properties of the energy of the meters of an accounting register in a range of days, and of the
--- days in the register's report.
+-- Proofs that, in a range of days, the energies of an accounting register's meters add up to the
+-- energies of the days in the register's report.
 use Rattle.std.proofs.Common.{◌≡◌, ℕ, ℤ, zero, suc, ◌+◌, ◌-◌, ◌<◌, ◌≤◌, ◌^◌, inl, inr, Bool, true, false, cond, Some, None, List, [], ◌∷◌, ◌++◌, map, length, get_or, refl, sym, ◌∙◌, ap, subst, arith}
 use Rattle.std.specs.Prelude.{◌<ℤ◌, ◌&&◌, All, Contains, filter, nat_le, sum_by}
 use Rattle.jiff_core.proofs.SignedLemmas.{signed_arith}
@@ -29,15 +29,17 @@ module _ (zone : Zone) (range : DayRange) where
   abbrev day_of : Share → ℤ
   day_of row = day_at zone row.start
 
-  -- The energy of the intervals of a day, in mWh, if the day is in the range. Otherwise 0.
+  -- The energy of the intervals of a day, in mWh, if the day is in the given range of days.
+  -- Otherwise 0.
   abbrev on_day : List Share → DayAccount → ℕ
   on_day rows account = cond (asked account.day) (energy_of (rows_on zone rows account.day)) 0
 
-  -- The energy in mWh that an interval adds to a day, if the day is in the range.
+  -- The energy in mWh that an interval adds to a day, if the day is in the given range of days.
   abbrev adds : Share → DayAccount → ℕ
   adds row account = cond (asked account.day) (cond (int_eq (day_of row) account.day) row.mwh 0) 0
 
-  -- Lemmas on the energy of a day after one more quarter-hour interval.
+  -- Lemmas on the energy of a day in mWh, after one more quarter-hour interval was added to a list
+  -- of intervals.
 
   one_day : (p b : Bool) (row : Share) (rows : List Share)
       → cond p (energy_of (cond b (row ∷ rows) rows)) 0 ≡ cond p (cond b row.mwh 0) 0 + cond p (energy_of rows) 0
@@ -106,7 +108,8 @@ module _ (zone : Zone) (range : DayRange) where
             omega (arith, here, rest, sum_by-cons (adds row) account accounts)
       ]
 
-  -- Lemmas on the energy of all intervals in a range of days.
+  -- Lemmas: the energy of all intervals in a range of days equals the sum of the energies of the
+  -- range's days.
 
   abbrev in_range : Share → Bool
   in_range row = asked (day_of row)
@@ -142,7 +145,8 @@ module _ (zone : Zone) (range : DayRange) where
       let day = day_of (get_or rows k d) in
       longer (int_eq (day_of row) day) row (rows_on zone rows day) (some_on rows k d (omega (arith, less)))
 
-  -- Lemmas on those days of an accounting register's report that are in a range of days.
+  -- Lemmas: those days of an accounting register's report that are in a range of days have together
+  -- the energy of the interval rows that start on these days.
 
   is_in_number : (total : DayTotal) → is_in range total.day ≡ has_day range (account_of total).day
   is_in_number total =
@@ -175,7 +179,8 @@ module _ (zone : Zone) (range : DayRange) where
       let rest = of_days rows days (All-tail P account (map account_of days) each) in
       omega (arith, here, rest, one_total (is_in range total.day) total (days_in range days), sum_by-cons (on_day rows) account (map account_of days))
 
-  -- Lemmas on the energy of all meters of an accounting register in a range of days.
+  -- Lemmas: the energy of all meters of an accounting register (a named energy counter) in a range
+  -- of days is the energy of all their intervals in this range.
 
   abbrev IsOfSomeDay : Share → Type 0
   IsOfSomeDay row = row.start ≤ LAST_MOMENT

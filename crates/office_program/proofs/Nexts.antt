@@ -28,7 +28,8 @@ takes_on : (first : Option ℕ) (h : History) (at : ℕ) (device : Option (List 
     ≡ Take
 takes_on first h at device read result started ended planned = rw (no_notes h at device read result) refl
 
--- After Modbus reads were started, the next action is a read of the link.
+-- After a polling round started Modbus reads, the round's next action is a read of the link (the
+-- connection to the device).
 pub start_next : (past : History) (fed : List Answered) (one : Answered) (device : Option (List ℕ)) (read : ℕ)
     → one.event ≡ start_from device read → next_in past (one ∷ fed) ≡ Take
 start_next past fed one device read is =
@@ -45,15 +46,15 @@ pub end_next : (past : History) (fed : List Answered) (one : Answered) (given : 
 end_next past fed one given c is =
     ap (λ e. next_by e (next_after (endings_of past fed one) (reads_started (one ∷ fed)) (polls_ended past (one ∷ fed)) (reads_planned (one ∷ fed)))) is
 
--- After the event `Connected`, the next action is to start the Modbus reads, beginning with the
--- plan's read 0.
+-- After the event `Connected` (the device is connected), the round's next action is to start the
+-- Modbus reads, beginning with the plan's read 0.
 pub connection_next : (past : History) (fed : List Answered) (one : Answered) (given : Option (List ℕ)) → one.event ≡ event.Connected given
     → next_in past (one ∷ fed) ≡ StartFrom 0
 connection_next past fed one given is =
     ap (λ e. next_by e (next_after (endings_of past fed one) (reads_started (one ∷ fed)) (polls_ended past (one ∷ fed)) (reads_planned (one ∷ fed)))) is
 
--- After an event that can end polls, the next action is to start reads, to disconnect or to read
--- from the link. It is never to connect.
+-- After an event that can end polls, a polling round's next action is to start reads, to disconnect
+-- or to read from the link. It is never to connect.
 left_not : (start leave : Bool) (n : ℕ) → cond start (StartFrom n) (cond leave Leave Take) ≡ Connect → ⊥
 left_not true leave n h = absurd (cc)
 left_not false true n h = absurd (cc)

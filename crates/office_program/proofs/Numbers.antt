@@ -128,8 +128,8 @@ counts_from first count test (note.Held meter raw cause ∷ notes) ended other b
     ∙ counts_from first count test notes ended other beyond
     ∙ reported_same first count notes (one ∷ notes) (λ n. refl)
 
--- A poll counts as one pending poll if the store has no outcome of the poll, otherwise as no
--- pending poll.
+-- A list that has a given poll only if the store has no outcome of this poll has length 1 if there
+-- is no outcome, otherwise 0.
 one_open : (x n : ℕ) → length (cond (n == 0) (x ∷ []) []) ≡ 1 - n
 one_open x zero = refl
 one_open x (suc n) = ap length (cond-false (suc n == 0) (x ∷ []) [] (ne_eqb (suc n) 0 (λ e. absurd (omega (arith, e))))) ∙ omega arith

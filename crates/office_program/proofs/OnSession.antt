@@ -124,8 +124,9 @@ sent_on laws at device before (send ∷ sends) =
     ∙ ap (λ ns. ns ++ sent_numbers sends) (numbers_more laws device before (start_by at device send))
     ∙ append_assoc (numbers_in (polls_on device false before)) (send.number ∷ []) (sent_numbers sends)
 
--- True if `after` is the table entry of a device after Modbus reads were started in the device's
--- session.
+-- True if `after` is the slot (the state of a device) that results from `slot` when Modbus reads
+-- are started. The session in `after` has the events `before`, followed by the starts of the reads
+-- `sends`.
 pub record IsAfterStart (at : ℕ) (slot : Slot) (before : List session.Event) (sends : List Send) (after : Slot) : Type 0 where
   pub device : after.device ≡ slot.device
   pub present : after.present ≡ Some (before ++ map (start_by at slot.device) sends)

@@ -1,5 +1,5 @@
 -- Proof that none of a device's polls is pending after the device's polling round (one poll for
--- each Modbus read of its plan) is over.
+-- each Modbus read that covers its point list) is over.
 use Rattle.std.proofs.Common.{◌≡◌, inr, ℕ, ◌==◌, nat_lt, nat_le, Bool, true, false, cond, List, [], ◌∷◌, Option, Result, Ok, Err, refl, sym, subst, IsOk}
 use Rattle.poll_core.specs.declared.outcome.Closing.{Closing}
 use Rattle.office_events.specs.declared.answers.Answer.{Answer}
@@ -90,7 +90,7 @@ is_round ledger device past begun now from to office fed round going wired over 
 }
 
 -- If a fault ended a polling round early, and the event engine processed the round's last event,
--- then `IsBrokenOff` holds.
+-- then `IsBrokenOff` holds, the contract for a round that ended early.
 pub is_broken_off : {B : Type 0} (ledger : B → Ledger) (device : Option (List ℕ)) (past : History) (begun was now : RoundState) (from to : Wire)
     (before office : Office B) (earlier : List Answered) (round : Progress) (cause fault : RoundFault)
     → Broken ledger device past begun was before earlier round cause → IsWired {X = Unit {0}} past from to earlier (Err cause)

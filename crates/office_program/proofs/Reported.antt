@@ -1,5 +1,5 @@
--- Properties of how often an event reports the outcome of a poll, and of the poll's recorded
--- outcomes after the event.
+-- Lemmas: an event reports an outcome of a poll as often as it records one, and a poll is still
+-- pending if and only if no notification reports its outcome.
 use Rattle.std.proofs.Common.{◌≡◌, ℕ, suc, ◌+◌, ◌==◌, not, ◌||◌, Bool, true, false, cond, List, [], ◌∷◌, ◌++◌, length, Option, Some, None, refl, sym, ap, ◌∙◌, arith, if◌then◌else◌}
 use Rattle.std.specs.List.{filter, list_any}
 use Rattle.std.specs.Option.{option_map, option_to_list}
@@ -74,7 +74,7 @@ words_quiet n at number (session.Malformed malformation) facts = refl
 words_quiet n at number (session.Lost cause) facts = refl
 
 -- If one more outcome of a poll is both reported and recorded, then the numbers of the poll's
--- reported and recorded outcomes grow by one. Otherwise both are unchanged.
+-- reported and recorded outcomes grow by one. Otherwise both numbers are unchanged.
 one_more : {X Y : Type 0} (b : Bool) (x : X) (xs : List X) (y : Y) (ys : List Y) → length ys ≡ 0
     → length (cond b (x ∷ xs) xs) ≡ length (cond b (y ∷ ys) ys) + length xs
 one_more true x xs y ys h = omega (arith, h)

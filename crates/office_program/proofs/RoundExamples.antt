@@ -17,15 +17,16 @@ begun = joined (unconnected None)
 abbrev connected : Round
 connected = answered (Ok answer.Noted) begun
 
--- The example's polling round after Modbus reads 0 and 1 were started as polls 7 and 8.
+-- The polling round of an example with three Modbus reads, after reads 0 and 1 were started as
+-- polls 7 and 8.
 abbrev two_started : Round
 two_started = answered (Ok (answer.Started 7 2 3)) connected
 
 abbrev one_ended : Round
 one_ended = heard (note.Outcome 7 outcome.Answered ∷ []) two_started
 
--- The example's polling round after its last Modbus read was started as poll 12. Polls 9 to 11
--- belong to other devices.
+-- The polling round of an example with three Modbus reads, after the last read was started as poll
+-- 12. Polls 9 to 11 belong to other devices.
 abbrev all_started : Round
 all_started = answered (Ok (answer.Started 12 1 3)) one_ended
 

@@ -1,4 +1,5 @@
--- Properties of the single actions of a running polling round.
+-- Proofs that each single action of a running polling round, such as a read of the link (the
+-- connection to the device), satisfies its contract `Steps`.
 use Rattle.std.proofs.Common.{◌≡◌, inl, inr, ℕ, ◌<◌, ◌+◌, Bool, List, [], ◌∷◌, ◌++◌, Option, Some, None, Result, Ok, Err, refl, sym, ap, ◌∙◌, subst, arith, append-nil}
 use Rattle.std.proofs.KnownBytes.{Appends-kept, Appends-trans, Consumes-kept, Consumes-trans}
 use Rattle.std.specs.Io.KnownBytes.{Appends, Consumes, Keeps}
@@ -33,8 +34,8 @@ use Rattle.office_program.proofs.Goings.{part_more}
 use Rattle.office_program.proofs.Nexts.{connection_next, end_next, start_next}
 use Rattle.office_program.proofs.Wires.{appends_nothing, consumes_nothing, part_of_all}
 
--- If a fault occurs in a running polling round, then the round ends early, in the state that the
--- definition `Broken` requires.
+-- If a fault occurs in a running polling round, then the round ends early. It is then in the state
+-- that `Broken` defines for a round that a fault ended.
 pub broken : {B : Type 0} (ledger : B → Ledger) (device : Option (List ℕ)) (past : History) (begun now : RoundState) (office : Office B)
     (fed : List Answered) (round : Progress) (cause : RoundFault) → Going ledger device past begun now office fed round
     → BreaksOff device past cause fed → IsPrinted {X = Unit {0}} (Err cause) (text_after past fed) begun.printed now.printed
@@ -56,8 +57,9 @@ given_broken Link h at e result a b frames unsent got = absurd unsent
 given_broken Output h at e result a b frames unsent got = (frames, outgoing_after h at e result, refl, got)
 given_broken TurnsUsed h at e result a b frames unsent got = absurd unsent
 
--- If a polling round ended early at an event and sent no frames for it, the bytes read and written
--- on the link satisfy `IsWired`.
+-- If a polling round ended early at an event and sent no frames for it, then `IsWired` holds: the
+-- bytes read from the device's connection are those of the events. The bytes written are those of
+-- the earlier events' frames.
 pub wired_broken : (past : History) (from to : Wire) (fed : List Answered) (one : Answered) (e : Event) (cause : RoundFault)
     → Consumes from.remaining to.remaining (pieces_after fed ++ piece_in e) → Appends from.given to.given (frames_after past fed)
     → one.event ≡ e → IsUnsent cause one.result → IsWired {X = Unit {0}} past from to (one ∷ fed) (Err cause)
@@ -68,8 +70,8 @@ wired_broken past from to fed one e cause taken given is unsent = record {
   given = given_broken cause (history_with past fed) one.at one.event one.result from.given to.given (frames_after past fed) unsent given;
 }
 
--- If a polling round wrote all frames of an event, then the bytes read and written on the link
--- satisfy `IsWired`.
+-- If a polling round wrote all frames of an event, then the bytes read and written on the link (the
+-- connection to the device) satisfy the contract `IsWired`.
 pub wired_sent : (past : History) (from mid to : Wire) (fed : List Answered) (one : Answered) (e : Event) (frames : List ℕ)
     → Consumes from.remaining mid.remaining (pieces_after fed ++ piece_in e) → Appends from.given mid.given (frames_after past fed) → one.event ≡ e
     → frames ≡ outgoing_after (history_with past fed) one.at one.event one.result → Keeps mid.remaining to.remaining
@@ -100,7 +102,7 @@ does_take device same next e is equal taken =
     rw is (subst P equal taken)
 
 -- The properties of an event that a polling round generates: it is the round's next event, and has
--- no bytes received from the link.
+-- no bytes received from the link (the connection to the device).
 pub record Wanted (device : Option (List ℕ)) (past : History) (fed : List Answered) (e : Event) : Type 0 where
   pub does : Does device (next_in past fed) e
   pub piece : piece_in e ≡ []
@@ -142,15 +144,15 @@ rests_at device Starting started wish = absurd (cc)
 rests_at device Waiting started wish = refl
 rests_at device (Leaving cause) started wish = absurd (cc)
 
--- If a polling round generates no event, then its next action is a read of the link, or the round
--- is over.
+-- If a polling round generates no event, then its next action is a read of the link (the connection
+-- to the device), or the round is over.
 pub rests : (device : Option (List ℕ)) (past : History) (fed : List Answered) (round : Round) (now : Next) → Holds device past fed round
     → wish_of round ≡ None → next_in past fed ≡ now → next_in past fed ≡ settled now
 rests device past fed round now holds wish is =
     holds.next ∙ sym (rests_at round.device round.stage round.started wish) ∙ ap settled (sym holds.next ∙ is)
 
--- If a polling round generates no event after an event from the link, the round is over or it next
--- reads the link.
+-- If a polling round generates no event after an event from the link (the connection to the
+-- device), the round is over or it next reads the link.
 over_by : (now : Next) (stage : Stage) (started : ℕ) → (now ≡ Connect → ⊥) → settled now ≡ next_at stage started
     → next_at stage started ≡ over_or_take (is_over stage)
 over_by now Off started anew is = refl
@@ -180,8 +182,8 @@ pub nothing_left : (fed : List Answered) (e : Event) (from to : Wire) → piece_
     → Consumes from.remaining to.remaining (pieces_after fed ++ piece_in e)
 nothing_left fed e from to none taken = consumes_nothing from.remaining to.remaining (pieces_after fed) (piece_in e) taken none
 
--- If a read of the link returned the bytes of an event, then the bytes read are those of the
--- earlier events and this event.
+-- If a read of the link (the connection to the device) returned an event's bytes, the bytes read
+-- are those of the round's earlier events and of this event.
 pub taken_wire : (past : History) (from old new : Wire) (fed : List Answered) (e : Event) → IsWired {X = Unit {0}} past from old fed (Ok tt)
     → Consumes old.remaining new.remaining (piece_in e) → Keeps old.given new.given
     → Consumes from.remaining new.remaining (pieces_after fed ++ piece_in e) × Appends from.given new.given (frames_after past fed)
@@ -190,7 +192,8 @@ taken_wire past from old new fed e wired taken kept = (
   Appends-kept from.given old.given new.given (frames_after past fed) wired.given kept,
 )
 
--- If a read of the link returned no bytes, then the bytes read from the link are unchanged.
+-- If a read of the link (the connection to the device) returned no bytes, then the bytes read from
+-- the link are unchanged.
 pub kept_wire : (past : History) (from old new : Wire) (fed : List Answered) → IsWired {X = Unit {0}} past from old fed (Ok tt)
     → Consumes old.remaining new.remaining [] → Keeps old.given new.given
     → Consumes from.remaining new.remaining (pieces_after fed) × Appends from.given new.given (frames_after past fed)
@@ -213,8 +216,8 @@ compose ledger old mid new now x after next result final first meets second last
     let between = first device past begun from fed going wired is (lasts clean) in
     second device past begun from between.0 between.1.0 between.1.1 (between.1.2 ∙ meets) clean
 
--- If the 100,000 reads of the link are used up, then a running polling round ends with the fault
--- `TurnsUsed`.
+-- If the 100,000 reads of the link (the connection to the device) are used up, then a running
+-- polling round ends with the fault `TurnsUsed`.
 pub used_up : {B X Y : Type 0} (ledger : B → Ledger) (old new : Scene B) (now : Next) (x : X)
     (after : X → Next) (final : Y → Next) → StepsFrom ledger old new now (Ok x) after
     → StepsFrom {X = Y} ledger old new now (Err TurnsUsed) final
@@ -227,8 +230,8 @@ used_up ledger old new now x after final first = λ device past begun from fed g
       ),
     )
 
--- If the frames of an event were written to the link, completely or in part, then the action
--- satisfies its contract `Steps`.
+-- If a polling round wrote the frames of an event to the link (the connection to the device),
+-- completely or in part, then this action satisfies its contract `Steps`.
 pub sent : {B : Type 0} (ledger : B → Ledger) (device : Option (List ℕ)) (past : History) (begun : RoundState) (from mid to : Wire) (now : RoundState)
     (office : Office B) (fed : List Answered) (one : Answered) (progress : Progress) (e : Event)
     (result : Result (Unit {0}) RoundFault) (frames : List ℕ) → Consumes from.remaining mid.remaining (pieces_after fed ++ piece_in e)
@@ -246,15 +249,16 @@ sent ledger device past begun from mid to now office fed one progress e (Err Lin
 sent ledger device past begun from mid to now office fed one progress e (Err Output) frames taken had is going reported are kept given only = absurd only
 sent ledger device past begun from mid to now office fed one progress e (Err TurnsUsed) frames taken had is going reported are kept given only = absurd only
 
--- If an action satisfies its contract `Steps` with a next action, then the action also satisfies
--- the contract with an equal next action.
+-- If an action of a polling round satisfies its contract `Steps` with a next action, then it also
+-- satisfies the contract with an equal next action.
 pub next_as : {B X : Type 0} (ledger : B → Ledger) (device : Option (List ℕ)) (past : History) (begun now : RoundState) (from to : Wire) (office : Office B)
     (fed : List Answered) (progress : Progress) (result : Result X RoundFault) (first second : X → Next) → ((x : X) → first x ≡ second x)
     → Steps ledger device past begun now from to office fed progress result first → Steps ledger device past begun now from to office fed progress result second
 next_as ledger device past begun now from to office fed progress (Ok x) first second same steps = (steps.0, steps.1, steps.2 ∙ same x)
 next_as ledger device past begun now from to office fed progress (Err cause) first second same steps = steps
 
--- If a read of the link returned no event, then the polling round ends early.
+-- If a read of the link (the connection to the device) returned no event, then the polling round
+-- ends early.
 pub not_taken : {B : Type 0} (ledger : B → Ledger) (device : Option (List ℕ)) (past : History) (begun now : RoundState) (from to : Wire)
     (office : Office B) (fed : List Answered) (round : Progress) (same : Option (List ℕ)) (cause : RoundFault) (before after : ℕ)
     (last : Option LastTake) → Brings same (Err cause) before after last → Going ledger device past begun now office fed round
@@ -271,8 +275,9 @@ not_taken ledger device past begun now from to office fed round same Link before
 not_taken ledger device past begun now from to office fed round same Output before after last brings going taken given = absurd brings
 not_taken ledger device past begun now from to office fed round same TurnsUsed before after last brings going taken given = absurd brings
 
--- The flag in an action's result, which says whether the polling round is over, determines the
--- round's next action: none if the round is over, otherwise a read of the link.
+-- A flag in the result of a polling round's action says whether the round is over. The flag
+-- determines the round's next action: none if the round is over, otherwise a read of the link
+-- (connection).
 pub as_turn : {B : Type 0} (ledger : B → Ledger) (old new : Scene B) (now : Next) (over b : Bool)
     → StepsFrom ledger old new now (Ok over) over_or_take → over ≡ b
     → StepsFrom {X = Unit {0}} ledger old new now (Ok tt) (λ done. over_or_take b)
@@ -280,7 +285,8 @@ as_turn ledger old new now over b first same = λ device past begun from fed goi
     let so = first device past begun from fed going wired is clean in
     (so.0, (so.1.0, so.1.1, so.1.2 ∙ ap over_or_take same))
 
--- If a fault ends a polling round early, then the link was read at most 100,000 times.
+-- If a fault ends a polling round early, then the round read the link (the connection to the
+-- device) at most 100,000 times.
 pub at_most : (fault : RoundFault) (turn old mid new : ℕ) → turn < 100000 → AreTakes turn old mid → TurnTakes {X = Bool} (Err fault) mid new
     → AreAtMost 100000 old new
 at_most (Refused why) turn old mid new few takes (inl one) = (turn + 1, omega arith, λ count is. omega (arith, takes count is, one))

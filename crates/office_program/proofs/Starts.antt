@@ -101,8 +101,8 @@ few_sent number at device before (span ∷ spans) =
     few_step (is_startable device (Some before)) send (sends_on (number + 1) at device (before ++ start_by at device send ∷ []) spans) (length spans)
     (few_sent (number + 1) at device (before ++ start_by at device send ∷ []) spans)
 
--- The number of a plan's Modbus reads from index `from` on is at most the length of the plan minus
--- `from`, or is 0.
+-- The number of Modbus reads that a point list's plan has from index `from` on is at most the
+-- length of the plan minus `from`, or is 0.
 pub reads_left : (from : ℕ) (list : Option Planned) → length (round_spans from list) + from ≤ length (round_spans 0 list)
     ⊎ (length (round_spans from list) ≡ 0)
 reads_left from None = inr refl

@@ -82,7 +82,8 @@ listed_err None before after why (inl is) = inl (ap (λ w. Err w) is.0, is.1)
 listed_err None before after why (inr out) = inr out
 listed_err (Some rows) before after why out = inr out
 
--- Lemmas on filtering a list by two tests.
+-- Lemmas: filtering a list by two tests, of which the first implies the second, equals filtering
+-- the list by the first test.
 
 fails_too : (p q : Bool) → (p ≡ true → q ≡ true) → q ≡ false → p ≡ false
 fails_too true q implies isnt = absurd (let e : false ≡ true = sym isnt ∙ implies refl in cc e)
@@ -112,8 +113,8 @@ and_second true b is = is
 and_second false b is = absurd (cc is)
 
 module _ {B : Type 0} (ledger : B → Ledger) (zone : Zone) (range : DayRange) where
-  -- Lemmas on the tally of a meter's entries in a range of days: the first and last entry, and the
-  -- corrections.
+  -- Lemmas: a meter's entries in a range of days are tallied in chunks (first entry, last entry and
+  -- corrections), with the result of one tally of all entries.
 
   abbrev pub IsTallied : (a b : Office B) → (meter : Option (List ℕ)) → (n : ℕ) → EntryTally → Type 0
   IsTallied a b meter n tally = After ledger a b (λ past. (opening : Opening)
@@ -168,7 +169,8 @@ module _ {B : Type 0} (ledger : B → Ledger) (zone : Zone) (range : DayRange) w
       (nothing (from_place facts n) (λ (x : Opening). tally_of zone range (entries_at facts (Some x))) o) kept.failures
       (listed_err (option_map (from_place facts n) o) (failures_of ledger b) (failures_of ledger d) why (lists past (kept.stands past stands) clean))
 
-  -- Lemmas on the energy of a meter in a range of days.
+  -- Lemmas: summing a meter's quarter hours in a wider span gives the meter's energy in a range of
+  -- days.
 
   -- True if the span of quarter hours contains every quarter hour of the range of days.
   abbrev pub IsAround : Span → Type 0
@@ -211,7 +213,8 @@ module _ {B : Type 0} (ledger : B → Ledger) (zone : Zone) (range : DayRange) w
       refused_on ⊥ (Unit {0}) (is_there (intervals_within facts meter span)) (energy_in zone range facts meter)
       (failures_of ledger a) (failures_of ledger a) (failures_of ledger d) why (λ none. tt) (no_rows span (intervals_of facts meter)) refl hands.answer
 
-  -- Lemmas on the counts of a meter's rejected readings in a range of days.
+  -- Lemmas: counting a meter's rejected readings one by one gives the counts of the readings in a
+  -- range of days.
 
   abbrev holds_if : List Fact → (name : List ℕ) → Opening → List HeldReading
   holds_if facts name opening = holds_within span.All (holds_of facts name)
@@ -255,7 +258,8 @@ module _ {B : Type 0} (ledger : B → Ledger) (zone : Zone) (range : DayRange) w
       refused_on ⊥ (Unit {0}) (is_there (holds_named facts meter span.All)) (held_in zone range facts meter)
       (failures_of ledger a) (failures_of ledger a) (failures_of ledger d) why (λ none. tt) (no_holds facts meter) refl hands.answer
 
-  -- Lemmas on a meter's statement: the numbers against which the meter's bill is checked.
+  -- Lemmas: the queries for a meter's tally, energy and rejected readings give the meter's
+  -- statement, the numbers against which its bill is checked.
 
   abbrev by_opening : List Fact → (meter : List ℕ) → Opening → MeterStatement
   by_opening facts meter opening = reported_of zone range facts meter (Some opening)
@@ -331,8 +335,8 @@ module _ {B : Type 0} (ledger : B → Ledger) (zone : Zone) (range : DayRange) w
       (gone (held_if facts meter) (by_opening facts meter) (opening_of facts meter)) kept.failures
       (reported past (kept.stands past stands) clean)
 
-  -- Lemmas on the statements of the meters of an accounting register, which are appended to a list
-  -- one by one.
+  -- Lemmas: the statements (reports to check a bill) of an accounting register's meters are
+  -- appended to a list one by one, each as the specification gives it.
 
   pub not_there : (a : Office B) (row : Installation) (before : List MeterStatement) → was_installed zone range row ≡ false
       → States ledger zone range (row ∷ []) a a before before (Ok tt)
@@ -461,7 +465,8 @@ module _ {B : Type 0} (ledger : B → Ledger) (zone : Zone) (range : DayRange) w
       let found = mapped (λ r. installations_of facts register) (register_of facts register) rows is in
       subst (AreRecorded facts) found.2 (are_recorded facts register)
 
-  -- Lemmas on the statements of all meters of an accounting register.
+  -- Lemmas: the statements (reports to check a bill) of all meters of an accounting register (a
+  -- named energy counter) are the ones that the specification gives.
 
   pub statements_reported : (a b d : Office B) (register : Option (List ℕ)) (v : Vec Installation Global) (listed : List Installation) (rows : List MeterStatement)
       → listed ≡ v.items → OnlyAsks ledger a b (Ok v) → Keeps ledger b d
@@ -509,8 +514,8 @@ pub written_so : {E : Type 0} (written : Result (Unit {0}) E) (text : List ℕ) 
 written_so (Ok done) text meant status old new ends got = inl (ends, got)
 written_so (Err error) text meant status old new ends got = inr (ends, got)
 
--- If a command only queries the office (the event engine) for a report, then it has the effect that
--- `Asks` requires.
+-- If a command only queries the office (the event engine) for a report, then its effect is the one
+-- that `Asks` (the contract of queries) requires.
 pub only_asked : {B T : Type 0} (ledger : B → Ledger) (a b : Office B) (result : Result T Refusal) → OnlyAsks ledger a b result → Asks ledger a b
 only_asked ledger a b (Ok x) asks = record { reply = Ok tt; only = now_as ledger a b x tt asks }
 only_asked ledger a b (Err why) asks = record { reply = Err why; only = refused_as ledger a b why asks }

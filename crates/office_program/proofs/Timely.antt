@@ -1,5 +1,5 @@
--- Properties of the timestamps of a polling round's events, and of the event engine's answers to
--- the events.
+-- Proofs that a polling round's timestamp for its last event (`Gone`) is never refused, and lemmas
+-- on the event engine's answers to the round's events.
 use Rattle.std.proofs.Common.{◌≡◌, inl, inr, ℕ, nat_lt, Bool, true, false, ◌||◌, cond, List, [], ◌∷◌, Option, None, Some, Ok, refl, sym, subst, arith}
 use Rattle.std.proofs.lemmas.Bool.{or_parts}
 use Rattle.office_events.specs.declared.answers.Answer.{Answer}
@@ -134,7 +134,7 @@ one_accepted history at (event.Gone d c) before after given kind (inr fails) = a
 one_accepted history at (event.Command c) before after given kind reported = started_one history at c before after given kind reported
 one_accepted history at (event.Asked asked) before after given kind reported = absurd kind
 
--- If the event `Connected` is accepted, then its answer is `Noted`.
+-- If the event `Connected` is accepted, then its answer is `Noted` (the event was accepted).
 pub connected_noted : (history : History) (at : ℕ) (d : Option (List ℕ)) (before after : Failures) (given : Answer)
     → IsAnswer history at (event.Connected d) before after (Ok given) → given ≡ answer.Noted
 connected_noted history at d before after given (inl reported) = given_is (refusal_of history at (event.Connected d)) _ given reported.0

@@ -80,11 +80,13 @@ pub connects_same : {B : Type 0} (ledger : B → Ledger) (device same : Option (
 connects_same ledger device same past begun now office round result equal h =
     let P : Option (List ℕ) → Type 0 = λ d. Connects ledger d past begun now office round result in subst P equal h
 
--- True if the result is the fault `TurnsUsed`: the polling round used all of its reads of the link.
+-- True if the result is the fault `TurnsUsed`: the polling round used all of its reads of the link
+-- (the connection to the device).
 abbrev pub IsUsed : Result (Unit {0}) RoundFault → Type 0
 IsUsed result = result ≡ Err TurnsUsed
 
--- If the fault `TurnsUsed` is reported for a polling round, then this fault ended the round early.
+-- If the fault `TurnsUsed` (all reads of the link were used) is reported for a polling round, then
+-- this fault ended the round early.
 pub reported_used : (fault reported : RoundFault) → IsReportedOf fault reported → IsUsed (Err reported) → IsUsed (Err fault)
 reported_used fault reported (inl is) h = cc
 reported_used fault reported (inr is) h = absurd (cc)
@@ -100,8 +102,8 @@ failures_by : (fault reported : RoundFault) (before after : ℕ) → reported �
 failures_by fault reported before after is h =
     let P : RoundFault → Type 0 = λ f. CountsFailures {X = Unit {0}} (Err f) before after in subst P (sym is) h
 
--- If the link's count of failures is right for the fault that ended a polling round, it is right
--- for the fault that is reported.
+-- Suppose that the link's (connection's) count of failures grew by one exactly if the fault that
+-- ended a polling round was a failure of the link. Then the count also matches the reported fault.
 pub counts_failures : (fault reported : RoundFault) (before after : ℕ) → after ≡ risen (is_link_fault {X = Unit {0}} (Err fault)) before
     → IsReportedOf fault reported → CountsFailures {X = Unit {0}} (Err reported) before after
 counts_failures (Refused why) reported before after h (inl is) = failures_by (Refused why) reported before after is h

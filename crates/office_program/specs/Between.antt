@@ -1,8 +1,9 @@
 -- Contracts of the functions of a polling round: their effect on the round, its link to the device,
--- the office (the engine that records energy), the clock and the writer.
+-- the office (the engine that records energy), the clock and the writer of the output.
 --
--- The names `old`, `before`, `had`, `from` and `here` denote the state before the call. The state
--- after the call and the result come last.
+-- In each contract of a polling round's functions, the names `old`, `before`, `had`, `from` and
+-- `here` denote the state before the function's call. The parameters for the state after the call
+-- and for the result come last.
 use Rattle.std.specs.Prelude.{◌≡◌, ℕ, Bool, List, ◌∷◌, ◌++◌, Option, Result, Ok, Err}
 use Rattle.std.specs.Io.KnownBytes.{Appends, Consumes}
 use Rattle.std.specs.declared.io.Write as writers
@@ -27,13 +28,15 @@ use Rattle.office_program.specs.Taking.{over_or_take}
 use Rattle.office_program.specs.declared.fault.RoundFault.{RoundFault}
 use Rattle.office_program.specs.declared.progress.Progress.{Progress}
 
--- The bytes that a link has yet to deliver, and the bytes written to the link, as far as they are
--- known. Contracts compare them before and after a call.
+-- The bytes that a link (a connection to a device) will deliver to later reads, and the bytes
+-- written to it. Each is `None` if the link's type does not specify it. Contracts compare them
+-- before and after a call.
 abbrev pub wire_of : {L : Type 0} → links.Ghosts L → L → Wire
 wire_of l link = wire (l.remaining link) (l.given link)
 
--- True if the call printed the report of an accepted event: the event engine's notifications,
--- Modbus frames and answer. If the write failed, only a part of the report was printed.
+-- True if a function's call printed the report of an accepted event: the event engine's
+-- notifications, Modbus frames and answer. If the write failed, only a part of the report was
+-- printed.
 abbrev pub PrintsReported : {B W : Type 0} → writers.Ghosts W → Office B → Answer → (had holds : W)
     → Result Answer RoundFault → Type 0
 PrintsReported w office given had holds result =
@@ -50,8 +53,8 @@ EndsSilently b at gone old new = (printed moments later : Option (List ℕ))
     (round_state printed later (failures_of b.ledger new)) old new)
 
 module _ {B W : Type 0} (b : stores.Ghosts B) (w : writers.Ghosts W) where
-  -- True if an event was fed to the event engine and the engine's report of the event was printed.
-  -- The clock's time is arbitrary.
+  -- True if an event was fed to the event engine and the engine's report of the event was printed,
+  -- whatever time the clock returned.
   abbrev pub FeedsAndPrints : (at : ℕ) → Event → (old new : Office B) → (had holds : W)
       → Result Answer RoundFault → Type 0
   FeedsAndPrints at e old new had holds result = (moments later : Option (List ℕ))
@@ -60,7 +63,7 @@ module _ {B W : Type 0} (b : stores.Ghosts B) (w : writers.Ghosts W) where
       (round_state (w.contents holds) later (failures_of b.ledger new)) new result)
 
   -- True if the last event of a polling round was fed to the event engine and its report was
-  -- printed. The clock's time is arbitrary.
+  -- printed, whatever time the clock returned.
   abbrev pub EndsAndPrints : (at : ℕ) → Event → (cause : RoundFault) → (old new : Office B)
       → (had holds : W) → (fault : RoundFault) → Type 0
   EndsAndPrints at gone cause old new had holds fault = (moments later : Option (List ℕ))
@@ -69,14 +72,14 @@ module _ {B W : Type 0} (b : stores.Ghosts B) (w : writers.Ghosts W) where
       (round_state (w.contents holds) later (failures_of b.ledger new)) old new fault)
 
 module _ {B C W : Type 0} (b : stores.Ghosts B) (c : clocks.Ghosts C) (w : writers.Ghosts W) where
-  -- The printed text and the clock as far as they are known, and the failure counts of the event
-  -- engine's store.
+  -- The text printed so far, the remaining times of the clock, and the failure counts of the event
+  -- engine's store. Text and times are `None` if the writer or the clock does not specify them.
   abbrev pub desk_of : Office B → C → W → RoundState
   desk_of office clock output =
       round_state (w.contents output) (c.moments clock) (failures_of b.ledger office)
 
-  -- The type of a relation between the event engine, the clock and the writer before and after a
-  -- call, and a result of type `X`.
+  -- The type of a relation between the event engine, the clock and the writer of the output before
+  -- and after a call, and a result of type `X`.
   abbrev pub Leaves : Type 0 → Type 1
   Leaves X = (old new : Office B) → (before after : C) → (had holds : W) → X → Type 0
 
@@ -114,7 +117,7 @@ module _ {B C W : Type 0} (b : stores.Ghosts B) (c : clocks.Ghosts C) (w : write
       → Closes b.ledger device past begun (desk_of new after holds) new fed cause fault
 
   -- States that if a polling round's event `Connected` was refused or not printed, the round ended
-  -- as `Rounds` describes, with its link unchanged.
+  -- as `Rounds` (the contract of a complete round) describes, with its link unchanged.
   abbrev pub EndsUnconnected : Progress → (cause : RoundFault) → Leaves RoundFault
   EndsUnconnected progress cause old new before after had holds fault =
       (device : Option (List ℕ)) (past : History) (begun : RoundState) (wire : Wire)
@@ -125,14 +128,15 @@ module _ {B C W : Type 0} (b : stores.Ghosts B) (c : clocks.Ghosts C) (w : write
 
 module _ {L B C W : Type 0} (l : links.Ghosts L) (b : stores.Ghosts B) (c : clocks.Ghosts C)
     (w : writers.Ghosts W) where
-  -- The state of a polling round together with its link, the event engine, the clock and the
-  -- writer.
+  -- The state of a polling round together with its link (the connection to the device), the event
+  -- engine, the clock and the writer of the output.
   abbrev pub scene_of : Progress → L → Office B → C → W → Scene B
   scene_of progress link office clock output =
       scene office (desk_of b c w office clock output) (wire_of l link) progress
 
-  -- The known state of the writer, the clock and the link at the start of a polling round and at
-  -- its end.
+  -- The state of the output writer, the clock, the store's failure counts and the link (connection
+  -- to the device) at the start and end of a polling round. A part that its type does not specify
+  -- is `None`.
   abbrev pub passage_of : (from to : L) → (old new : Office B) → (before after : C)
       → (had holds : W) → Passage
   passage_of from to old new before after had holds =
@@ -140,19 +144,19 @@ module _ {L B C W : Type 0} (l : links.Ghosts L) (b : stores.Ghosts B) (c : cloc
       (wire_of l from) (wire_of l to)
 
   -- The type of the contract of an action of a polling round. It relates the result to the round,
-  -- its link, the event engine, the clock and the writer before and after the call.
+  -- its link, the event engine, the clock and the writer of the output before and after the call.
   abbrev pub StepsBetween : Type 0 → Type 1
   StepsBetween X = (here there : Progress) → (from to : L) → Leaves b c w (Result X RoundFault)
 
-  -- States that if `now` is the polling round's next action, then the call performed this action.
-  -- Afterwards `then` gives the round's next action from the call's result.
+  -- States that if `now` is the polling round's next action, then the call of a polling function
+  -- performed this action. Afterwards `then` gives the round's next action from the call's result.
   abbrev pub StepsOn : {X : Type 0} → (now : Next) → (then : X → Next) → StepsBetween X
   StepsOn now then here there from to old new before after had holds result =
       StepsFrom b.ledger (scene_of here from old before had) (scene_of there to new after holds)
       now result then
 
   -- States that if `e` is the polling round's next event, `e` was fed to the event engine. The
-  -- engine's Modbus frames were written to the link.
+  -- engine's Modbus frames were written to the link (the connection to the device).
   abbrev pub Puts : Event → StepsBetween (Unit {0})
   Puts e here there from to old new before after had holds result =
       (device : Option (List ℕ)) (past : History) (begun : RoundState) (first : Wire)
@@ -172,16 +176,17 @@ module _ {L B C W : Type 0} (l : links.Ghosts L) (b : stores.Ghosts B) (c : cloc
       (now : Next) → StepsOn now (λ done. settled now) here there from to old new before after had
       holds result
 
-  -- True if the call fed to the event engine the event that the polling round generated after an
-  -- event from the link, if any. The result says whether the round is over.
+  -- True if a call of a polling function fed to the event engine the event, if any, that the
+  -- polling round generated after an event from the link (connection). The call's result says
+  -- whether the round is over.
   abbrev pub Follows : StepsBetween Bool
   Follows here there from to old new before after had holds result =
       (now : Next) → (now ≡ Connect → ⊥)
       → StepsOn now over_or_take here there from to old new before after had holds result
 
-  -- States that if `e` came from the link, then `e` was fed to the event engine. Then the event
-  -- that the polling round generated, if any, was fed to the engine. The result says whether the
-  -- round is over.
+  -- States that if the event `e` came from the link (the connection to the device), then `e` was
+  -- fed to the event engine. Then the event that the polling round generated, if any, was fed to
+  -- the engine. The result says whether the round is over.
   abbrev pub FeedsTaken : Event → StepsBetween Bool
   FeedsTaken e here there from to old new before after had holds result =
       (device : Option (List ℕ)) (past : History) (begun : RoundState) (first : Wire)
@@ -194,22 +199,22 @@ module _ {L B C W : Type 0} (l : links.Ghosts L) (b : stores.Ghosts B) (c : cloc
       × Steps b.ledger device past begun (desk_of b c w new after holds) first
       (wire_of l to) new later there result over_or_take
 
-  -- True if the link was read once, and the events that follow from the read were fed to the event
-  -- engine. The result says whether the polling round is over.
+  -- True if the link (the connection to the device) was read once, and the events that follow from
+  -- the read were fed to the event engine. The result says whether the polling round is over.
   abbrev pub TakesTurn : StepsBetween Bool
   TakesTurn = StepsOn Take over_or_take
 
-  -- True if the link was read until the polling round was over.
+  -- True if the link (the connection to the device) was read until the polling round was over.
   abbrev pub TakesTurns : StepsBetween (Unit {0})
   TakesTurns = StepsOn Take (λ done. Over)
 
-  -- True if the Modbus reads of the device's plan were started, and the link was read until the
-  -- polling round was over.
+  -- True if the Modbus reads of the device's plan were started, and the link (the connection to the
+  -- device) was read until the polling round was over.
   abbrev pub PollsOut : StepsBetween (Unit {0})
   PollsOut = StepsOn (StartFrom 0) (λ done. Over)
 
-  -- States that if the round had started no read of its plan before, then the call polled the
-  -- device until the polling round was over.
+  -- States that if the polling round had started no Modbus read before a call of the polling
+  -- function, then this call polled the device until the round was over.
   abbrev pub PollsToEnd : Progress → (from to : L) → Leaves b c w (Result (Unit {0}) RoundFault)
   PollsToEnd progress from to old new before after had holds result =
       (device : Option (List ℕ)) (past : History) (begun : RoundState) (first : Wire)
@@ -220,8 +225,8 @@ module _ {L B C W : Type 0} (l : links.Ghosts L) (b : stores.Ghosts B) (c : cloc
       → Rounds b.ledger device past
       (passage begun (desk_of b c w new after holds) first (wire_of l to)) new result
 
-  -- True if the call performed a complete polling round of the device, from the connection to the
-  -- end of the round.
+  -- True if a call of a function that polls the device performed a complete polling round, from the
+  -- connection to the end of the round.
   abbrev pub RoundsOver : (device : Option (List ℕ)) → (from to : L)
       → Leaves b c w (Result (Unit {0}) RoundFault)
   RoundsOver device from to old new before after had holds result =

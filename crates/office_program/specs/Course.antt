@@ -1,8 +1,8 @@
 -- The next event of a polling round, as a function of the events that the round has already fed to
--- the office (the event engine). A polling round makes one poll for each Modbus read of a device's
--- plan.
+-- the office (the event engine). A polling round makes one poll for each Modbus read that covers a
+-- device's point list.
 --
--- All lists of events have the latest event first.
+-- In the definitions below, all lists of events have the latest event first.
 use Rattle.std.specs.Prelude.{◌≡◌, ℕ, ◌+◌, ◌==◌, nat_lt, nat_le, Bool, false, List, [], ◌∷◌, Option, None, Some, Result, Ok, Err, IsOk, if◌then◌else◌}
 use Rattle.std.specs.List.{count_by}
 use Rattle.poll_core.specs.declared.outcome.Closing.TheVariants as closing
@@ -19,8 +19,8 @@ use Rattle.office_books.specs.Notes.{notes_after}
 use Rattle.office_core.specs.EventRun.{Answered}
 use Rattle.office_program.specs.FedEvents.{history_with}
 
--- The number of the polling round's first poll: `first` if it is known, otherwise the number that
--- the event engine's answer reports.
+-- The number of the polling round's first poll: `first` if an earlier answer of the event engine
+-- reported it. Otherwise the number that the present answer reports, if any.
 abbrev pub first_by : Option ℕ → Answer → Option ℕ
 first_by (Some first) given = Some first
 first_by None answer.Noted = None
@@ -36,8 +36,8 @@ started_by (answer.Done kind) = 0
 started_by (answer.Again kind) = 0
 started_by (answer.Started first count of) = count
 
--- The number of Modbus reads in the device's plan: the number in the event engine's answer, or the
--- number `planned` known so far if the answer reports none.
+-- The number of Modbus reads that cover the device's point list. It is the number in the event
+-- engine's answer, or the earlier value `planned` if the answer reports none.
 abbrev pub planned_by : ℕ → Answer → ℕ
 planned_by planned answer.Noted = planned
 planned_by planned (answer.Done kind) = planned
@@ -56,8 +56,8 @@ abbrev pub started_after : ℕ → Result Answer Refusal → ℕ
 started_after started (Ok given) = started + started_by given
 started_after started (Err why) = started
 
--- The number of Modbus reads in the device's plan after the event engine answered one more event. A
--- refusal leaves the number unchanged.
+-- The number of Modbus reads that cover the device's point list, after the event engine answered
+-- one more event. A refusal leaves the number unchanged.
 abbrev pub planned_after : ℕ → Result Answer Refusal → ℕ
 planned_after planned (Ok given) = planned_by planned given
 planned_after planned (Err why) = planned
@@ -72,14 +72,14 @@ abbrev pub reads_started : List Answered → ℕ
 reads_started [] = 0
 reads_started (one ∷ earlier) = started_after (reads_started earlier) one.result
 
--- The number of Modbus reads in the plan that the event engine's answers have reported, or 0 if no
--- answer has reported a number.
+-- The number of Modbus reads that cover the device's point list, as the event engine's answers have
+-- reported it, or 0 if no answer has reported the number.
 abbrev pub reads_planned : List Answered → ℕ
 reads_planned [] = 0
 reads_planned (one ∷ earlier) = planned_after (reads_planned earlier) one.result
 
--- True if the poll with this number belongs to the polling round. Poll numbers increase, so all
--- numbers from the round's first poll on belong to the round.
+-- True if the poll with the given number belongs to the polling round. Poll numbers increase, so
+-- all numbers from the round's first poll on belong to the round.
 abbrev pub is_from : (first : Option ℕ) → ℕ → Bool
 is_from None poll = false
 is_from (Some first) poll = nat_le first poll
@@ -103,9 +103,10 @@ polls_ended past (one ∷ earlier) = polls_ended past earlier + endings_of past 
 
 -- The next action of a polling round:
 -- - `Connect`: feed the event `Connected` to the event engine;
--- - `StartFrom`: start the Modbus reads of the plan from index `read` on;
+-- - `StartFrom`: start the Modbus reads of the device's plan (the reads that cover its point list)
+--   from index `read` on;
 -- - `Leave`: feed the event `Gone` (the device is disconnected) to the event engine;
--- - `Take`: read an event from the link;
+-- - `Take`: read an event from the link (the connection to the device);
 -- - `Over`: none, because the round is over.
 pub data Next : Type 0 where
   Connect : Next
@@ -114,23 +115,24 @@ pub data Next : Type 0 where
   Take : Next
   Over : Next
 
--- The next action after a poll ended. If Modbus reads of the plan remain, start these reads. If no
--- read remains and all polls have ended, feed the event `Gone`, which ends the round, to the event
--- engine. Otherwise read from the link.
+-- The next action of a polling round after a poll ended. If Modbus reads of the plan remain, start
+-- these reads. If no read remains and all polls have ended, feed the event `Gone`, which ends the
+-- round, to the event engine. Otherwise read from the link.
 abbrev pub next_left : (started ended planned : ℕ) → Next
 next_left started ended planned =
     if nat_lt started planned then StartFrom started
     else if nat_le planned ended then Leave
     else Take
 
--- The next action after an event. If the event ended no poll of the polling round, read from the
--- link. Otherwise start the remaining reads or disconnect, as `next_left` gives.
+-- The next action of a polling round after an event. If the event ended no poll of the round, read
+-- from the link. Otherwise start the remaining reads, disconnect, or read from the link, as
+-- `next_left` defines.
 abbrev pub next_after : (endings started ended planned : ℕ) → Next
 next_after endings started ended planned =
     if endings == 0 then Take else next_left started ended planned
 
--- The next action after an event: start the Modbus reads after `Connected`, no action after `Gone`,
--- and after any other event the action `next`.
+-- The next action of a polling round after an event: start the Modbus reads after `Connected`, no
+-- action after `Gone`, and after any other event the action `next`.
 abbrev pub next_by : Event → Next → Next
 next_by (event.Connected given) next = StartFrom 0
 next_by (event.Bytes given piece) next = next
@@ -146,8 +148,9 @@ next_in past (one ∷ earlier) = next_by one.event (next_after (endings_of past 
     (reads_started (one ∷ earlier)) (polls_ended past (one ∷ earlier))
     (reads_planned (one ∷ earlier)))
 
--- True if the event can come from a read of the link. Such an event is bytes of the device, a timer
--- event if the read timed out, or the end of the connection.
+-- True if the event can come from a read of the link (the connection to the device). Such an event
+-- is bytes received from the device, a timer event if the read timed out, or the end of the
+-- connection.
 abbrev pub IsTaken : (device : Option (List ℕ)) → Event → Type 0
 IsTaken device (event.Connected given) = ⊥
 IsTaken device (event.Bytes given piece) = given ≡ device
@@ -156,7 +159,8 @@ IsTaken device (event.Gone given cause) = (given ≡ device) × (cause ≡ closi
 IsTaken device (event.Command c) = ⊥
 IsTaken device (event.Asked asked) = ⊥
 
--- The command that starts the Modbus reads of a device's plan, beginning at index `read`.
+-- The command that starts the Modbus reads of a device's plan (the reads that cover its point
+-- list), beginning at index `read`.
 abbrev pub start_from : (device : Option (List ℕ)) → ℕ → Event
 start_from device read =
     event.Command (command.StartRound (record { device = device; from = read }))
@@ -169,8 +173,8 @@ Does device Leave e = e ≡ event.Gone device closing.Gone
 Does device Take e = IsTaken device e
 Does device Over e = ⊥
 
--- True if each event was the next action after the earlier events, and the event engine accepted
--- each event.
+-- True if each event in a list performed the action that was the polling round's next one after the
+-- earlier events of the list. The event engine must have accepted each event.
 abbrev pub AreNext : (device : Option (List ℕ)) → (past : History) → List Answered → Type 0
 AreNext device past [] = Unit {0}
 AreNext device past (one ∷ earlier) =

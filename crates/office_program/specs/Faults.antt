@@ -13,7 +13,8 @@ fault_number Link = 2
 fault_number Output = 3
 fault_number TurnsUsed = 4
 
--- True if the result is a failure of the link.
+-- True if the result of a polling round, or of a part of it, is a failure of the link (the
+-- connection to the device).
 abbrev pub is_link_fault : {X : Type 0} → Result X RoundFault → Bool
 is_link_fault (Ok x) = false
 is_link_fault (Err (Refused why)) = false
@@ -31,8 +32,8 @@ IsPrinted (Err Link) text old new = Appends old new text
 IsPrinted (Err Output) text old new = GotPart text old new
 IsPrinted (Err TurnsUsed) text old new = Appends old new text
 
--- States that the Modbus frames were written to the link completely. If the link or the output
--- failed, states that the frames were written completely or in part.
+-- States that the Modbus frames were written to the link (the connection to the device) completely.
+-- If the link or the output failed, states that the frames were written completely or in part.
 --
 -- After a failed write of the output, the frames of the latest started Modbus reads were not sent.
 abbrev pub AreGiven : {X : Type 0} → Result X RoundFault → (frames : List ℕ)
@@ -43,7 +44,8 @@ AreGiven (Err Link) frames old new = GotPart frames old new
 AreGiven (Err Output) frames old new = GotPart frames old new
 AreGiven (Err TurnsUsed) frames old new = Appends old new frames
 
--- True if the result is a success or a failure of the link, and no other fault.
+-- True if the result is a success or a failure of the link (the connection to the device), and no
+-- other fault.
 abbrev pub OnlyLink : {X : Type 0} → Result X RoundFault → Type 0
 OnlyLink (Ok x) = Unit {0}
 OnlyLink (Err (Refused why)) = ⊥
@@ -51,8 +53,8 @@ OnlyLink (Err Link) = Unit {0}
 OnlyLink (Err Output) = ⊥
 OnlyLink (Err TurnsUsed) = ⊥
 
--- True if the result is a success, a refusal of the office (the event engine), or a failed write of
--- the output.
+-- True if the result of an action of a polling round is a success, a refusal of the office (the
+-- event engine), or a failed write of the output. No fault of the link to the device is allowed.
 abbrev pub OfOffice : {X : Type 0} → Result X RoundFault → Type 0
 OfOffice (Ok x) = Unit {0}
 OfOffice (Err (Refused why)) = Unit {0}
@@ -61,7 +63,7 @@ OfOffice (Err Output) = Unit {0}
 OfOffice (Err TurnsUsed) = ⊥
 
 -- True if the result is not the fault `TurnsUsed`, which means that the polling round used all of
--- its 100,000 reads of the link.
+-- its 100,000 reads of the link (the connection to the device).
 abbrev pub TakesOn : {X : Type 0} → Result X RoundFault → Type 0
 TakesOn (Ok x) = Unit {0}
 TakesOn (Err (Refused why)) = Unit {0}

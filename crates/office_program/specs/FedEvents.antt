@@ -21,8 +21,9 @@ history_with past [] = past
 history_with past (one ∷ earlier) =
     with_answer (history_with past earlier) one.at one.event one.result
 
--- True if each event has the answer that is defined for the state after the earlier events, or was
--- refused because of a failure. The store's failure counts change accordingly.
+-- True if each event has the answer that the specification gives after the earlier events, or was
+-- refused because of a failure (such as a failed store). Only these failures increase the store's
+-- failure counts.
 abbrev pub AreAnswered : (past : History) → (before after : Failures) → List Answered → Type 0
 AreAnswered past before after [] = after ≡ before
 AreAnswered past before after (one ∷ earlier) =
@@ -30,7 +31,8 @@ AreAnswered past before after (one ∷ earlier) =
     × IsAnswer (history_with past earlier) one.at one.event between after one.result
 
 -- The text printed for an event. For an accepted event, the text has the event's notifications and
--- the answer, in the format of a script. For a refused event nothing is printed.
+-- the answer, in the format in which a script (a text of commands) is answered. For a refused event
+-- nothing is printed.
 abbrev pub reported_text : History → (at : ℕ) → Event → Result Answer Refusal → List ℕ
 reported_text past at e (Ok given) =
     accepted_text given (notes_after past at e (Ok given)) (outgoing_after past at e (Ok given))
@@ -51,7 +53,8 @@ frames_after past (one ∷ earlier) =
     frames_after past earlier
     ++ outgoing_after (history_with past earlier) one.at one.event one.result
 
--- The bytes of a device in an event. Empty for every event other than `Bytes`.
+-- The bytes received from a device that an event has. Empty for every event other than `Bytes`
+-- (bytes were received).
 abbrev pub piece_in : Event → List ℕ
 piece_in (event.Connected given) = []
 piece_in (event.Bytes given piece) = piece
@@ -60,8 +63,8 @@ piece_in (event.Gone given closing) = []
 piece_in (event.Command c) = []
 piece_in (event.Asked asked) = []
 
--- The bytes of the device in a list of events, in the order in which the events were fed to the
--- event engine.
+-- The bytes received from the device that the events in a list have, in the order in which the
+-- events were fed to the event engine.
 abbrev pub pieces_after : List Answered → List ℕ
 pieces_after [] = []
 pieces_after (one ∷ earlier) = pieces_after earlier ++ piece_in one.event

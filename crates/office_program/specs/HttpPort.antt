@@ -17,13 +17,13 @@ pub record Port : Type 0 where
   pub names : List (List ℕ)
   pub connections : ℕ
 
--- The `Port` (the settings of an HTTP port) with these fields.
+-- Builds a `Port` (the settings of an HTTP port) from its fields.
 abbrev pub port : (names : List (List ℕ)) → (connections : ℕ) → Port
 port names connections = record { names = names; connections = connections }
 
 -- The state of an event engine after it served HTTP on a port. The engine answered at most
--- `at.connections` connections, each at the clock's time. If the command can't listen on the port,
--- nothing changed.
+-- `at.connections` connections. The timestamp of each is the clock's time. If the command can't
+-- listen on the port, nothing changed.
 abbrev pub ServesPort : {B : Type 0} → Port → (then later : Option (List ℕ)) → (B → Ledger)
     → (past : History) → (opened left : Office B) → ServeEnd → Type 0
 ServesPort at then later ledger past opened left NoPort = left ≡ opened
@@ -50,20 +50,22 @@ ReportsServing ledger past at moments later books back had holds (Unopened statu
 ReportsServing ledger past at moments later books back had holds end =
     WithOffice ledger past moments back (Serves ledger at later had holds end)
 
--- The state before or after a command, for use in contracts: the store, the clock as far as it is
--- known, and the printed text.
+-- The state before or after a command, for use in contracts: the store, the times that the clock
+-- returns, and the printed text. `None` means that the contracts state nothing about the times or
+-- the text.
 pub record Scene (B : Type 0) : Type 0 where
   pub books : B
   pub moments : Option (List ℕ)
   pub written : Option (List ℕ)
 
--- The `Scene` (the state before or after a command) with these fields.
+-- Builds a `Scene` (the state before or after a command: store, clock and printed text) from its
+-- fields.
 abbrev pub scene : {B : Type 0} → B → (moments written : Option (List ℕ)) → Scene B
 scene books moments written = record { books = books; moments = moments; written = written }
 
--- The contract of the command that serves HTTP, for any accepted events that the store records.
--- `ReportsServing` states the result. The contract states nothing if a wrong result of the store
--- was used.
+-- The contract of the command that serves HTTP, for any accepted events that the store records. The
+-- definition `ReportsServing` states the result. The contract states nothing if a wrong result of
+-- the store was used.
 abbrev pub ServesBooks : {B : Type 0} → (B → Ledger) → Port → ServeEnd → (old new : Scene B)
     → Type 0
 ServesBooks ledger at end old new =

@@ -18,11 +18,11 @@ abbrev pub HasDay : Share → Type 0
 HasDay row = row.start ≤ LAST_MOMENT
 
 -- The theorem that on any range of days, the energies in the statements of an accounting register's
--- meters add up to the register's report.
+-- meters add up to the energy in the register's report.
 --
--- A statement is a report on one meter. The theorem assumes three facts. The intervals of the
--- register are those of its meters, each interval has a civil day, and the report's energy is below
--- 2^128 mWh.
+-- The theorem on the sum of the statements of an accounting register's meters assumes three facts.
+-- The intervals of the register are those of its meters. Each interval has a civil day. The energy
+-- in the register's report is below 2^128 mWh. (A statement is a report on one meter.)
 abbrev pub StatementsAddUp : Type 0
 StatementsAddUp = (zone : Zone) (range : DayRange) (meters : List (List Share))
     (days : List DayTotal) → let rows = flat_map (λ rows. rows) meters in

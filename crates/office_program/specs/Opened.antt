@@ -10,8 +10,8 @@ use Rattle.office_core.specs.declared.office.Office.{Office}
 use Rattle.office_program.specs.Texts.AskedOffice.{OpensToAsk}
 use Rattle.office_program.specs.Texts.OpenedOffice.{Opens}
 
--- True if the event engine was opened, the command acted on the opened engine as `Does` describes,
--- and the command returned the store.
+-- True if the event engine was opened, a command of `sunreg` acted on the opened engine as the
+-- given relation `Does` describes, and the command returned the store.
 pub record WithOffice {B : Type 0} (ledger : B → Ledger) (past : History)
     (moments : Option (List ℕ)) (back : B)
     (Does : (following : History) → (then : Option (List ℕ)) → (opened left : Office B) → Type 0)
@@ -23,8 +23,8 @@ pub record WithOffice {B : Type 0} (ledger : B → Ledger) (past : History)
   pub does : Does (Opened opens.at ∷ past) then opened left
   pub handed : back ≡ books_in left
 
--- True if the event engine was opened for queries, the command queried the engine as `Does`
--- describes, and the command returned the store. The clock was read once.
+-- True if the event engine was opened for queries, a command of `sunreg` queried the engine as the
+-- given relation `Does` describes, and the command returned the store. The clock was read once.
 pub record WithAsked {B : Type 0} (ledger : B → Ledger) (past : History)
     (moments later : Option (List ℕ)) (back : B)
     (Does : (following : History) → (opened left : Office B) → Type 0) : Type 0 where
@@ -34,8 +34,9 @@ pub record WithAsked {B : Type 0} (ledger : B → Ledger) (past : History)
   pub does : Does (Opened (asking_moment past opens.reported) ∷ past) opened left
   pub handed : back ≡ books_in left
 
--- States that `Holds` is true for each list of accepted events that the store may record at the
--- start. States nothing if the command used a wrong result of the store.
+-- States that the given property `Holds` is true for each list of accepted events that the store
+-- may record when a command of `sunreg` starts. States nothing if the command used a wrong result
+-- of the store.
 abbrev pub OverStanding : {B : Type 0} → (B → Ledger) → (books back : B)
     → (Holds : (past : History) → Type 0) → Type 0
 OverStanding ledger books back Holds =

@@ -1,5 +1,6 @@
 -- The state of a polling round after the events that it fed to the event engine: its pending polls,
--- and its next action. A round makes one poll for each Modbus read of a device's plan.
+-- and its next action. A round makes one poll for each Modbus read that covers a device's point
+-- list.
 use Rattle.std.specs.Prelude.{◌≡◌, ℕ, zero, suc, ◌+◌, ◌≤◌, ◌==◌, Bool, true, false, List, [], ◌∷◌, ◌++◌, map, length, Option, Some, None, Ok}
 use Rattle.std.specs.List.{filter}
 use Rattle.poll_core.specs.declared.outcome.Closing.TheVariants as closing
@@ -24,8 +25,8 @@ use Rattle.office_program.specs.declared.device_rounds.round.Round.{Round}
 use Rattle.office_program.specs.declared.device_rounds.stage.Stage.{Stage}
 use Rattle.office_program.specs.declared.device_rounds.stage.Stage.TheVariants.{Off, Joining, Starting, Waiting, Leaving}
 
--- The next action of a polling round at this stage, if the round has started `started` reads of the
--- plan.
+-- The next action of a polling round at this stage, if the round has started `started` of the
+-- Modbus reads that cover the device's point list.
 abbrev pub next_at : Stage → (started : ℕ) → Next
 next_at Off started = Over
 next_at Joining started = Connect
@@ -42,7 +43,7 @@ abbrev pub from_on : (first count : ℕ) → List ℕ
 from_on first zero = []
 from_on first (suc n) = from_on first n ++ (first + n) ∷ []
 
--- True if the store has no recorded outcome of the poll with this number.
+-- True if the store has no recorded outcome of the poll with the given number.
 abbrev pub is_open : List Fact → ℕ → Bool
 is_open facts number = length (ends_of facts number) == 0
 
@@ -60,10 +61,11 @@ abbrev pub IsFirst : (first : Option ℕ) → (number started : ℕ) → Type 0
 IsFirst None number started = started ≡ 0
 IsFirst (Some first) number started = first ≡ number
 
--- The state of a polling round that has fed its first event to the event engine.
+-- The state of a polling round (one poll for each read of the device's plan) after at least one of
+-- its events was fed to the event engine: its poll numbers and pending polls.
 --
--- The polls of the round have consecutive numbers, and no other polls were started since the device
--- connected. The pending polls are the polls without a recorded outcome.
+-- The polls of the polling round have consecutive numbers, and no other polls were started since
+-- the device connected. The pending polls are the polls without a recorded outcome.
 pub record IsUnderWay (device : Option (List ℕ)) (past : History) (fed : List Answered)
     (round : Round) : Type 0 where
   pub number : ℕ
@@ -97,7 +99,8 @@ StandsAt Waiting device past fed round = IsUnderWay device past fed round
 StandsAt (Leaving cause) device past fed round = cause ≡ closing.Gone
 
 -- True if the polling round is in the state that follows from the events that it fed to the event
--- engine. Also requires that `next_in` gives the round's next action.
+-- engine. Also requires that the round's next action is the one that the definition `next_in` gives
+-- for these events.
 pub record Holds (device : Option (List ℕ)) (past : History) (fed : List Answered)
     (round : Round) : Type 0 where
   pub device_is : round.device ≡ device
@@ -137,11 +140,11 @@ is_over Waiting = false
 is_over (Leaving cause) = false
 
 -- The theorem that a polling round generates exactly the events that the definition `next_in`
--- gives.
+-- gives. This definition computes the next action from the events that the round fed before.
 --
--- Suppose that the events that a round fed to the event engine define its state, and the engine
--- accepts the round's next event. Then these events with the next event define the round's new
--- state.
+-- Suppose that the events that a polling round fed to the event engine define its state, and the
+-- engine accepts the round's next event. Then these events with the next event define the round's
+-- new state.
 abbrev pub RoundsHold : Type 0
 RoundsHold = (device : Option (List ℕ)) (past : History) (fed : List Answered) (round : Round)
     (at : ℕ) (e : Event) (before after : Failures) (given : Answer)

@@ -18,7 +18,8 @@ use Rattle.office_program.specs.Opened.{OverStanding, WithOffice}
 use Rattle.office_program.specs.declared.port_round.PollEnd.{PollEnd}
 use Rattle.office_program.specs.declared.port_round.PollEnd.TheVariants.{Polled, Unopened, Unconnected}
 
--- True if the device was polled in one polling round over some link, as `PollsRound` describes.
+-- True if the device was polled in one polling round over some link (a connection to the device),
+-- as the contract `PollsRound` describes.
 pub record IsPolled {B : Type 0} (ledger : B → Ledger) (device : List ℕ)
     (later had holds : Option (List ℕ)) (done : Result (Unit {0}) RoundFault)
     (following : History) (then : Option (List ℕ)) (opened left : Office B) : Type 0 where
@@ -35,8 +36,9 @@ pub record IsLeft {B : Type 0} (had holds : Option (List ℕ)) (opened left : Of
   pub same : left ≡ opened
   pub silent : holds ≡ had
 
--- The state of the event engine after the command. If the device was connected, the result is the
--- state after a polling round. If no connection was established, the engine is unchanged.
+-- The state of the event engine after the command that polls a device once. If the device was
+-- connected, the result is the state after a polling round. If no connection was established, the
+-- engine is unchanged.
 abbrev pub PollsPort : {B : Type 0} → (B → Ledger) → (device : List ℕ)
     → (later had holds : Option (List ℕ)) → PollEnd
     → (following : History) → (then : Option (List ℕ)) → (opened left : Office B) → Type 0
@@ -46,8 +48,8 @@ PollsPort ledger device later had holds Unconnected following then opened left =
     IsLeft had holds opened left
 PollsPort ledger device later had holds (Unopened status) following then opened left = ⊥
 
--- The contract of polling a device once over TCP. `PollsPort` states the result, whatever events
--- the event engine accepted before.
+-- The contract of polling a device once over TCP. The definition `PollsPort` states the result,
+-- whatever events the event engine accepted before.
 abbrev pub PollsPortOf : {B C W : Type 0} → stores.Ghosts B → clocks.Ghosts C → writers.Ghosts W
     → (device : List ℕ) → (old new : Office B) → (before after : C) → (had holds : W) → PollEnd
     → Type 0
@@ -66,7 +68,7 @@ ReportsPolling ledger past device moments later books back had holds end =
     WithOffice ledger past moments back (PollsPort ledger device later had holds end)
 
 -- The contract of the command that polls a device once, for any accepted events that the store
--- records. `ReportsPolling` states the result.
+-- records. The definition `ReportsPolling` states the result.
 abbrev pub PollsOver : {B C W : Type 0} → stores.Ghosts B → clocks.Ghosts C → writers.Ghosts W
     → (device : List ℕ) → (books back : B) → (before after : C) → (had holds : W) → PollEnd → Type 0
 PollsOver b c w device books back before after had holds end =

@@ -17,8 +17,9 @@ use Rattle.office_program.specs.Texts.RangedReports.{RangePrints}
 use Rattle.office_program.specs.Texts.EndTexts.{ReportsEnd}
 use Rattle.office_program.specs.Opened.{OverStanding, WithAsked}
 
--- True if the accounting register's days in the range were printed in the requested form, or the
--- reason for a refusal was printed. The event engine was only queried.
+-- True if the accounting register's days in the range were printed in the
+-- requested period, unit and format, or the reason for a refusal was printed. The event engine was
+-- only queried.
 pub record ReportsRange {B : Type 0} (ledger : B → Ledger) (register : Option (List ℕ))
     (form : ReportForm) (had holds : Option (List ℕ)) (status : ExitStatus) (following : History)
     (opened left : Office B) : Type 0 where
@@ -36,8 +37,9 @@ AnswersRange ledger past register form moments later books back had holds status
     ⊎ WithAsked ledger past moments later back
     (ReportsRange ledger (named register) form had holds status)
 
--- The contract of the command that reports a range of days, for any accepted events that the store
--- records. `AnswersRange` states the result.
+-- The contract of the command that reports an accounting register's energy
+-- on a range of days, for any accepted events that the store records. The definition `AnswersRange`
+-- states the result.
 abbrev pub RangeOver : {B C W : Type 0} → stores.Ghosts B → clocks.Ghosts C → writers.Ghosts W
     → (register : List ℕ) → ReportForm → (books back : B) → (before after : C) → (had holds : W)
     → ExitStatus → Type 0

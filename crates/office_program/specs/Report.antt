@@ -16,8 +16,8 @@ use Rattle.office_program.specs.Texts.Reports.{ReportPrints}
 use Rattle.office_program.specs.Texts.EndTexts.{ReportsEnd}
 use Rattle.office_program.specs.Opened.{OverStanding, WithAsked}
 
--- True if all days of the accounting register were printed, or the reason for a refusal was
--- printed. The event engine was only queried.
+-- True if all days of the accounting register (a named energy counter) were printed with their
+-- energy, or the reason for a refusal was printed. The event engine was only queried.
 pub record Reports {B : Type 0} (ledger : B → Ledger) (register had holds : Option (List ℕ))
     (status : ExitStatus) (following : History) (opened left : Office B) : Type 0 where
   pub prints : ReportsEnd (ReportPrints (ledger (books_in opened)).zone following register
@@ -33,8 +33,9 @@ ReportsReport ledger past register moments later books back had holds status =
     ReportsUnasked past moments later (ledger books) (ledger back) status had holds
     ⊎ WithAsked ledger past moments later back (Reports ledger (named register) had holds status)
 
--- The contract of the command that reports all days, for any accepted events that the store
--- records. `ReportsReport` states the result.
+-- The contract of the command that reports an accounting register's energy
+-- on all days, for any accepted events that the store records. The definition `ReportsReport`
+-- states the result.
 abbrev pub ReportsOver : {B C W : Type 0} → stores.Ghosts B → clocks.Ghosts C → writers.Ghosts W
     → (register : List ℕ) → (books back : B) → (before after : C) → (had holds : W) → ExitStatus
     → Type 0

@@ -1,5 +1,5 @@
--- The result of a polling round (one poll for each Modbus read of a device's plan): the state of
--- the office (the event engine), and the bytes that were read, written and printed.
+-- The result of a polling round (one poll for each Modbus read that covers a device's point list):
+-- the state of the office (the event engine), and the bytes that were read, written and printed.
 use Rattle.std.specs.Prelude.{◌≡◌, ◌⊎◌, ℕ, nat_lt, true, ◌||◌, List, [], ◌∷◌, Option, Some, Result, Ok, Err, if◌then◌else◌}
 use Rattle.std.specs.Io.KnownBytes.{Appends, Consumes}
 use Rattle.mb_wire.specs.Sockets.Clocks.{ReportsMoment}
@@ -22,41 +22,44 @@ use Rattle.office_program.specs.FedEvents.{AreAnswered, AreTimed, frames_after, 
 use Rattle.office_program.specs.declared.fault.RoundFault.{RoundFault}
 use Rattle.office_program.specs.declared.fault.RoundFault.TheVariants.{Refused, Link, Output, TurnsUsed}
 
--- The printed text and the clock, as far as they are known, and the failure counts of the store.
+-- The printed text and the times that the clock returns (each is `None` if the contracts state
+-- nothing about it), and the failure counts of the store.
 pub record RoundState : Type 0 where
   pub printed : Option (List ℕ)
   pub moments : Option (List ℕ)
   pub failures : Failures
 
--- The `RoundState` (the known state of the output, the clock and the store) with these fields.
+-- Builds a `RoundState` (the known state of the output, the clock and the store) from its fields.
 abbrev pub round_state : (printed moments : Option (List ℕ)) → (failures : Failures) → RoundState
 round_state printed moments failures =
     record { printed = printed; moments = moments; failures = failures }
 
--- The bytes that a link still has to deliver, and the bytes written to the link, as far as they are
--- known.
+-- The bytes that a link (a connection to a device) still has to deliver, and the bytes written to
+-- the link. `None` means that the link's specification does not say which bytes these are.
 pub record Wire : Type 0 where
   pub remaining : Option (List ℕ)
   pub given : Option (List ℕ)
 
--- The `Wire` (the known bytes on a link to a device) with these fields.
+-- Builds a `Wire` (the known bytes read from and written to the link to a device) from its fields.
 abbrev pub wire : (remaining given : Option (List ℕ)) → Wire
 wire remaining given = record { remaining = remaining; given = given }
 
--- The known state of the writer, the clock, the store and the link at the start of a polling round
--- and at its end.
+-- The state of the writer of the output, the clock, the store's failure counts and the link
+-- (connection to the device) at the start and end of a polling round. A part that its type does not
+-- specify is `None`.
 pub record Passage : Type 0 where
   pub begun : RoundState
   pub ended : RoundState
   pub from : Wire
   pub to : Wire
 
--- The `Passage` (the known states at the start and the end of a polling round) with these fields.
+-- Builds a `Passage` (the known states at the start and the end of a polling round) from its
+-- fields.
 abbrev pub passage : (begun ended : RoundState) → (from to : Wire) → Passage
 passage begun ended from to = record { begun = begun; ended = ended; from = from; to = to }
 
--- True if each event has the defined answer or was refused because of a failure, and the event
--- engine is in the state after them.
+-- True if each event of a list has the answer that the specification gives, or was refused because
+-- of a failure. Also requires that the event engine is in the state after these events.
 pub record IsFed {B : Type 0} (ledger : B → Ledger) (past : History) (begun now : RoundState)
     (office : Office B)
     (fed : List Answered) : Type 0 where
@@ -76,8 +79,8 @@ IsSettled device history office = (is_stopped office ≡ true) ⊎ NoneWaits dev
 -- True if the polling round ended without a fault: each event that it fed to the event engine was
 -- its next event, and the last event was `Gone` (the device is disconnected).
 --
--- The bytes read from the link are those in these events, and the bytes written are the event
--- engine's Modbus frames. The engine's reports were printed.
+-- The bytes read from the link are those in the polling round's events, and the bytes written are
+-- the event engine's Modbus frames. The engine's reports of the events were printed.
 pub record IsRound {B : Type 0} (ledger : B → Ledger) (device : Option (List ℕ)) (past : History)
     (through : Passage)
     (office : Office B) : Type 0 where
@@ -103,8 +106,8 @@ pub record IsNotConnected {B : Type 0} (ledger : B → Ledger) (device : Option 
   pub same : through.to ≡ through.from
   pub printed : Appends through.begun.printed through.ended.printed []
 
--- True if the latest event in a list was the next action after the earlier events, and the event
--- engine refused this event.
+-- True if the latest event in a list was the next action of a polling round after the earlier
+-- events of the list, and the event engine refused this event.
 abbrev pub IsRefused : (device : Option (List ℕ)) → (past : History) → Refusal → List Answered
     → Type 0
 IsRefused device past why [] = ⊥
@@ -112,11 +115,11 @@ IsRefused device past why (one ∷ earlier) =
     AreNext device past earlier × Does device (next_in past earlier) one.event
     × (one.result ≡ Err why)
 
--- True if these events were fed to the event engine before a fault ended a polling round. Each
+-- True if the given events were fed to the event engine before a fault ended a polling round. Each
 -- event was the next event of the round. If the engine refused an event, this is the last one.
 --
--- If memory for received bytes ran out, the fault is a refusal although the engine refused no
--- event.
+-- If memory for received bytes ran out, the fault that ended the polling round is a refusal
+-- although the event engine refused no event.
 abbrev pub BreaksOff : (device : Option (List ℕ)) → (past : History) → RoundFault → List Answered
     → Type 0
 BreaksOff device past (Refused why) fed =
@@ -152,8 +155,8 @@ IsReportedOf cause fault = (fault ≡ cause) ⊎ (fault ≡ Output)
 -- True if a fault ended the polling round after the round had fed some of its events to the event
 -- engine.
 --
--- The round's last event is `Gone` with the cause `Failed` (the connection failed). The reported
--- fault does not depend on the event engine's answer to this event.
+-- The last event of the polling round is `Gone` with the cause `Failed` (the connection failed).
+-- The reported fault does not depend on the event engine's answer to this event.
 pub record IsBrokenOff {B : Type 0} (ledger : B → Ledger) (device : Option (List ℕ))
     (past : History) (through : Passage)
     (office : Office B) (fault : RoundFault) : Type 0 where

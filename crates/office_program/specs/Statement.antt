@@ -40,7 +40,7 @@ ReportsStatement ledger past register form moments later books back had holds st
     (StatesMeters ledger (ledger books).zone (named register) form had holds status)
 
 -- The contract of the command that prints statements (reports on single meters), for any accepted
--- events that the store records. `ReportsStatement` states the result.
+-- events that the store records. The definition `ReportsStatement` states the result.
 abbrev pub StatementOver : {B C W : Type 0} → stores.Ghosts B → clocks.Ghosts C → writers.Ghosts W
     → (register : List ℕ) → StatementForm → (books back : B) → (before after : C) → (had holds : W)
     → ExitStatus → Type 0

@@ -1,4 +1,5 @@
--- The state of a polling round between two of its actions, such as a read of the link.
+-- The state of a polling round between two of its actions, such as a read of the link (the
+-- connection to the device).
 use Rattle.std.specs.Prelude.{◌≡◌, ◌⊎◌, ◌||◌, ℕ, Bool, true, false, List, [], ◌∷◌, Option, Result, Ok, Err}
 use Rattle.std.specs.Io.KnownBytes.{Appends, Consumes}
 use Rattle.office_events.specs.declared.events.Event.{Event}
@@ -66,10 +67,12 @@ Feeds ledger past at e begun now office (Err Output) = IsUnprinted ledger past a
 Feeds ledger past at e begun now office (Err Link) = ⊥
 Feeds ledger past at e begun now office (Err TurnsUsed) = ⊥
 
--- The rule for when the event engine stops. A stopped engine refuses every event until a restart.
+-- The rule that the event engine stops if the store or memory fails during an event that can end
+-- polls. A stopped engine refuses every event until a restart.
 --
--- The engine refuses an event with the refusal `Stopped` only if the engine was stopped before. The
--- engine stops if the store or memory fails during an event that can end polls.
+-- The event engine refuses an event with the refusal `Stopped` only if the engine had stopped
+-- before this event. The engine stops if the store or memory fails during an event that can end
+-- polls.
 pub record Stops (was : Bool) (e : Event) (reply : Result Answer Refusal) (now : Bool) : Type 0
   where
     pub before : reply ≡ Err refusal.Stopped → was ≡ true
@@ -134,11 +137,11 @@ Prints given text old new (Err Link) = ⊥
 Prints given text old new (Err Output) = GotPart text old new
 Prints given text old new (Err TurnsUsed) = ⊥
 
--- The timestamp of the latest accepted event, after feeding an event with timestamp `at` to the
--- event engine ended with the fault.
+-- The timestamp of the latest accepted event after a polling round ended with the given fault. The
+-- last event that the round fed to the event engine has the timestamp `at`.
 --
--- The result is `at` if the engine accepted this event but its report could not be printed,
--- otherwise `latest`.
+-- The result is `at` if the event engine accepted the event with this timestamp but the event's
+-- report could not be printed, otherwise `latest`.
 abbrev pub latest_after : RoundFault → (at latest : ℕ) → ℕ
 latest_after (Refused why) at latest = latest
 latest_after Link at latest = latest
@@ -154,8 +157,9 @@ unfed device = record { round = joined (unconnected device); latest = 0 }
 abbrev pub IsNew : Progress → Type 0
 IsNew progress = progress.round ≡ joined (unconnected progress.round.device)
 
--- The state of a running polling round. The round fed each event in the defined order, the event
--- engine accepted each event, and its reports were printed.
+-- The state of a running polling round of one device. The round fed its events in the order that
+-- `AreNext` defines: each was the next action after the earlier events. The event engine accepted
+-- each event, and the events' reports were printed.
 pub record Going {B : Type 0} (ledger : B → Ledger) (device : Option (List ℕ)) (past : History)
     (begun now : RoundState)
     (office : Office B) (fed : List Answered) (progress : Progress) : Type 0 where
@@ -180,8 +184,9 @@ pub record Broken {B : Type 0} (ledger : B → Ledger) (device : Option (List �
     pub device_is : progress.round.device ≡ device
     pub latest : progress.latest ≡ latest_of (history_with past fed)
 
--- True if the bytes read from the link are those in the fed events, and the bytes written are the
--- event engine's Modbus frames. After a fault, only a part of the frames may have been written.
+-- True if the bytes read from the device's link are those in the events that the polling round fed.
+-- The bytes written are the event engine's Modbus frames, or after a fault, only a part of the
+-- frames.
 pub record IsWired {X : Type 0} (past : History) (from to : Wire) (fed : List Answered)
     (result : Result X RoundFault) : Type 0 where
   pub taken : Consumes from.remaining to.remaining (pieces_after fed)
@@ -196,16 +201,16 @@ pub record RoundGoesOn {B : Type 0} (ledger : B → Ledger) (device : Option (Li
   pub reported : outgoing_in office
       ≡ outgoing_after (history_with past fed) one.at one.event one.result
 
--- True if no Modbus frames were sent for the event, because the event engine refused the event or
--- printing its report failed.
+-- True if no Modbus frames were sent for an event of a polling round, because the event engine
+-- refused the event or printing the event's report failed.
 abbrev pub IsUnsent : RoundFault → Result Answer Refusal → Type 0
 IsUnsent (Refused why) result = result ≡ Err why
 IsUnsent Link result = ⊥
 IsUnsent Output result = Unit {0}
 IsUnsent TurnsUsed result = ⊥
 
--- The state after an event of a polling round. On `Ok` the round is running. On a fault the round
--- has ended early, and no Modbus frames were sent for the event.
+-- The state after a polling round fed an event to the event engine. On `Ok` the round is running.
+-- On a fault the round has ended early, and no Modbus frames were sent for the event.
 abbrev pub Reported : {B : Type 0} → (B → Ledger) → (device : Option (List ℕ)) → History
     → (begun now : RoundState) → Office B
     → List Answered → Answered → Progress → Result (Unit {0}) RoundFault → Type 0
@@ -215,8 +220,9 @@ Reported ledger device past begun now office fed one progress (Err cause) =
     Broken ledger device past begun now office (one ∷ fed) progress cause
     × IsUnsent cause one.result
 
--- The state after an action of a running polling round. On `Ok` the round is running, with the next
--- action that `next` gives. On a fault the round has ended early.
+-- The state after an action of a running polling round. On `Ok` the round is running, and the
+-- function `next` gives its next action from the action's result. On a fault the round has ended
+-- early.
 abbrev pub Steps : {B X : Type 0} → (B → Ledger) → (device : Option (List ℕ)) → History
     → (begun now : RoundState) → (from to : Wire)
     → Office B → List Answered → Progress → Result X RoundFault → (X → Next) → Type 0
@@ -227,23 +233,24 @@ Steps ledger device past begun now from to office fed progress (Err cause) next 
     Broken ledger device past begun now office fed progress cause
     × IsWired {X = Unit {0}} past from to fed (Err cause)
 
--- The state of a polling round before or after an action: the event engine, the writer and clock,
--- the link, and the progress.
+-- The state of a polling round before or after an action: the event engine, the clock, the writer
+-- of the output, the link, and the progress.
 pub record Scene (B : Type 0) : Type 0 where
   pub office : Office B
   pub round_state : RoundState
   pub wire : Wire
   pub progress : Progress
 
--- The `Scene` (the state before or after an action) of a polling round with these fields.
+-- Builds a `Scene` (the state of a polling round before or after an action) from its four fields.
 abbrev pub scene : {B : Type 0} → Office B → RoundState → Wire → Progress → Scene B
 scene office round_state wire progress =
     record { office = office; round_state = round_state; wire = wire; progress = progress }
 
--- The contract of an action `now` of a polling round, for any running round with this progress
--- whose next action is `now`. `Steps` states the result.
+-- The contract of an action `now` of a polling round. It holds for any running round with the
+-- progress in `old` whose next action is `now`. `Steps` states the result.
 --
--- States nothing if a wrong result of the store was used.
+-- The contract of an action of a polling round states nothing if the program used a wrong result of
+-- its store during this action.
 abbrev pub StepsFrom : {B X : Type 0} → (B → Ledger) → (old new : Scene B) → (now : Next)
     → Result X RoundFault → (X → Next) → Type 0
 StepsFrom ledger old new now result next =

@@ -17,12 +17,13 @@ pub enum RoundFault {
     Link,
     /// The event engine's report of an event could not be printed.
     Output,
-    /// The polling round used all of its 100,000 reads of the link.
+    /// The polling round used all of its 100,000 reads of the link (the connection to the device).
     TurnsUsed,
 }
 
 impl RoundFault {
-    /// Returns the numeric code of the fault, from 1. No output of the program shows this code.
+    /// Returns the numeric code of this fault, which ended a polling round. The codes begin at 1.
+    /// No output of the program shows them.
     pub fn number(self) -> u8
         ensures { result ≡ fault_number self }
     {

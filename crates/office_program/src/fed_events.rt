@@ -1,5 +1,5 @@
-//! Feeds events to the office (the engine that records energy), and prints the office's
-//! notifications and answers.
+//! Feeds events to the office (the engine that records energy), and prints its notifications and
+//! answers.
 ghost use Rattle.std.specs.Prelude.{◌≡◌};
 ghost use Rattle.office_core.specs.Standing.{is_stopped};
 ghost use Rattle.office_program.specs.Between.{FeedsAndPrints, PrintsReported, ReportsFirst, ReportsNext};
@@ -18,8 +18,8 @@ use office_events::{Answer, Event};
 use script_text::write_accepted;
 use std::io::Write;
 
-// Prints the notifications, the frames and the answer of an accepted event in the format of a
-// script.
+// Prints the notifications, the frames and the answer of an accepted event in the format in which a
+// script (a text of commands) is answered.
 fn print<B: Books, W: Write>(
     office: &Office<B>,
     answer: Answer,
@@ -54,11 +54,11 @@ pub(crate) fn feed<B: Books, W: Write>(
     }
 }
 
-/// Returns the timestamp of the latest accepted event, after feeding an event with timestamp `at`
-/// to the event engine ended with the fault.
+/// Returns the timestamp of the latest event that the event engine accepted, after a polling round
+/// ended with the fault `fault`. The round had fed the engine an event with the timestamp `at`.
 ///
-/// Returns `at` if the engine accepted this event but its report could not be printed, otherwise
-/// `latest`.
+/// Returns `at` if the engine accepted the event with timestamp `at` but the event's report could
+/// not be printed, otherwise `latest`.
 pub(crate) fn latest_after(fault: RoundFault, at: u64, latest: u64) -> u64
     ensures { result ≡ stepping.latest_after fault at latest }
 {

@@ -20,13 +20,13 @@ use std::net::{Net, TcpListener};
 /// The ways in which a command that serves HTTP on a port ends.
 #[derive(Clone, Copy, PartialEq, Eq)]
 pub enum ServeEnd {
-    /// The requested number of connections was served.
+    /// The command ended because it served the requested number of HTTP connections.
     Served,
     /// The event engine was not opened. The command ends with this exit status.
     Unopened(ExitStatus),
     /// The command can't listen on the port.
     NoPort,
-    /// The listening socket of the port failed.
+    /// The command ended because the listening socket of the HTTP port failed.
     Broken,
 }
 

@@ -68,9 +68,10 @@ fn poll_port<R: Net, B: Books, C: Clock, W: Write>(
 /// Opens an event engine over a store at the clock's time, and polls a device once: one poll for
 /// each Modbus read of the device's plan.
 ///
-/// The device is polled at a port of a host, as `poll_round` does. If opening the engine is
-/// refused, the command prints only `refused N` and does not connect to the device. If `device` is
-/// no valid name, the engine treats it as an unknown device. Returns the store.
+/// The function polls the device at a port of a host in one polling round, and prints the event
+/// engine's reports, as `poll_round` does. If opening the engine is refused, the function prints
+/// only `refused N` and does not connect to the device. If `device` is no valid name, the engine
+/// treats it as an unknown device. Returns the store.
 pub fn poll_books<R: Net, B: Books, C: Clock, W: Write>(
     net: &R,
     alloc: Global,

@@ -17,7 +17,8 @@ pub(crate) struct Progress {
     pub(crate) latest: u64,
 }
 
-// Changes the stage of the polling round to `Leaving` if the event disconnects the round's device.
+// Changes the stage of the polling round to `Leaving` if the event is the disconnection of the
+// round's device.
 fn end_by(round: &mut Round, event: &Event)
     ensures { round.new ≡ ended_by event.now round.old }
 {
@@ -41,8 +42,8 @@ impl Progress {
         Progress { round, latest: 0 }
     }
 
-    /// Updates the polling round after the office (the event engine) accepted the round's event: by
-    /// the event, by the engine's answer and by the notifications.
+    /// Updates the polling round after the office (the event engine) accepted an event of the
+    /// round. The update uses the event, the engine's answer and the engine's notifications.
     pub(crate) fn note(&mut self, at: u64, event: &Event, answer: Answer, notes: &[Note])
         ensures round { self.new.round ≡ round_after event.now answer notes.now self.old.round }
         ensures latest { self.new.latest ≡ at }

@@ -1,4 +1,4 @@
-//! Reports the energy of an accounting register on a range of civil days.
+//! Reports the energy of an accounting register (a named energy counter) on a range of civil days.
 ghost use Rattle.office_program.specs.Texts.Passing.{Lasts};
 ghost use Rattle.office_program.specs.RangedReport.{RangeOver};
 
@@ -12,12 +12,13 @@ use office_events::Name;
 use std::alloc::Global;
 use std::io::Write;
 
-/// Opens an office (the event engine) for queries, as `report_books` does, and prints the energy of
-/// an accounting register on a range of days.
+/// Opens an office (the event engine) for queries, at the clock's time or the store's latest
+/// timestamp, whichever is later. Prints the energy of an accounting register (a named energy
+/// counter) on a range of days.
 ///
-/// The form gives the days of the range, the period, the unit and the format. If the range has a
-/// first and a last day, the command does not read all quarter hours. It reads only the quarter
-/// hours of these days, and of at most two days before and two days after them.
+/// The argument `form` gives the days of the range, the period, the unit and the format. If the
+/// range has a first and a last day, the command does not read all quarter hours. It reads only the
+/// quarter hours of these days, and of at most two days before and two days after them.
 ///
 /// If opening the engine or the report is refused, the command prints only `refused N`. If
 /// `register` is no valid name, the engine treats it as an unknown register. Returns the store.

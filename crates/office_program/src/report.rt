@@ -1,4 +1,4 @@
-//! Reports the energy of an accounting register by civil day.
+//! Prints a report of the energy of an accounting register (a named energy counter) by civil day.
 ghost use Rattle.office_program.specs.Texts.Passing.{Lasts};
 ghost use Rattle.office_program.specs.Report.{ReportsOver};
 
@@ -12,11 +12,11 @@ use std::alloc::Global;
 use std::io::Write;
 
 /// Opens an office (the event engine) for queries, and prints the energy of an accounting register
-/// by civil day.
+/// (a named energy counter) by civil day.
 ///
-/// Each printed line is a day, and the last line has the number of days. The engine is opened at
-/// the clock's time, or at the latest timestamp in the store if that timestamp is later. So a clock
-/// that was set back hides no energy.
+/// Each printed line is a day, except the last line, which has the number of days. The engine is
+/// opened at the clock's time, or at the latest timestamp in the store if that timestamp is later.
+/// So a clock that was set back hides no energy.
 ///
 /// If opening the engine or the report is refused, the command prints only `refused N`. If
 /// `register` is no valid name, the engine treats it as an unknown register. Returns the store.

@@ -143,24 +143,25 @@ fn end_unconnected<B: Books, C: Clock, W: Write>(
 /// Polls a device once over a new link: one poll for each Modbus read of the device's plan.
 ///
 /// The polling round feeds the event `Connected` to the event engine, and starts the Modbus reads
-/// of the plan in order. It feeds the bytes of the link as they arrive, and a timer event if a read
-/// of the link times out. After each event that ends a poll of the round, it starts the next Modbus
-/// reads.
+/// of the device's plan (which cover its point list) in order. The round feeds the bytes of the
+/// link as they arrive, and a timer event if a read of the link times out. After each event that
+/// ends a poll of the round, the round starts the next Modbus reads.
 ///
-/// Once all polls have ended, or the link has ended, the round feeds the event `Gone` (the device
-/// is disconnected). The timestamp of each event is the clock's time.
+/// When all polls of the round have ended, or the link has ended, the round feeds the event `Gone`
+/// (the device is disconnected). The timestamp of each event is the clock's time.
 ///
-/// Accepted events are printed as a script prints them: their notifications, and `ok` or the
-/// started polls. Refusals are not printed.
+/// The polling round prints each accepted event in the format in which a script (a text of
+/// commands) is answered: the event's notifications, and `ok` or the started polls. Refusals are
+/// not printed.
 ///
-/// If `device` is `None`, the engine treats it as an unknown device. After a fault the round feeds
-/// the event `Gone` with the cause `Failed`. The round also prints this last event, unless an
-/// earlier write of the output failed. If the engine refused the event `Connected`, nothing else is
-/// fed.
+/// If `device` is `None`, the engine treats it as an unknown device. After a fault the polling
+/// round feeds the event `Gone` with the cause `Failed`. The round also prints this last event,
+/// unless an earlier write of the output failed. If the engine refused the event `Connected`, the
+/// round feeds no other event.
 ///
-/// If the clock was set back, or is past the largest supported timestamp, the last event has the
-/// timestamp of the latest event. At the end none of the device's polls is pending, unless the
-/// engine has stopped because the store or memory failed.
+/// If the clock was set back, or is past the largest supported timestamp, the polling round's last
+/// event has the timestamp of the latest accepted event. At the end none of the device's polls is
+/// pending, unless the engine has stopped because the store or memory failed.
 pub fn round_over<L: Link, B: Books, C: Clock, W: Write>(
     alloc: Global,
     link: &mut L,

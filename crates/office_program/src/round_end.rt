@@ -18,8 +18,8 @@ use poll_core::{Closing, LAST_MOMENT};
 use std::io::Write;
 
 // Returns the timestamp of the event `Gone` (the device is disconnected): the clock's time
-// `moment`. If the clock was set back or is past the largest supported timestamp, returns the
-// timestamp `latest` of the latest event.
+// `moment`. If the clock was set back or is past the largest supported timestamp, returns `latest`,
+// the timestamp of the latest accepted event.
 fn gone_at(latest: u64, moment: u64) -> u64
     ensures { result ≡ rounds.gone_at latest moment }
 {
@@ -30,8 +30,8 @@ fn gone_at(latest: u64, moment: u64) -> u64
     }
 }
 
-// Returns the fault to report for a polling round: `Output` if printing the last event failed,
-// otherwise the cause that ended the round early.
+// Returns the fault to report for a polling round that ended early. This is `Output` if printing
+// the last event failed, otherwise the cause that ended the round.
 fn fault_after(cause: RoundFault, fault: RoundFault) -> RoundFault
     ensures { result ≡ stepping.fault_after cause fault }
 {
@@ -88,8 +88,8 @@ fn end_unprinted<B: Books>(at: u64, gone: &Event, office: &mut Office<B>)
 /// `Failed`. Prints the engine's report of the event.
 ///
 /// If the polling round ended early because a write of the output failed, nothing is printed.
-/// Returns the fault to report: `Output` if printing the last event failed, otherwise the given
-/// fault.
+/// Returns the fault to report: `Output` if printing the last event failed, otherwise the fault
+/// that ended the round.
 pub(crate) fn close<B: Books, C: Clock, W: Write>(
     progress: &Progress,
     cause: RoundFault,

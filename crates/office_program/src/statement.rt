@@ -1,5 +1,6 @@
-//! Prints the statements of the meters of an accounting register, from an office (the event engine)
-//! that is opened over a store. A statement is a report on one meter, to check a bill.
+//! Prints the statements of the meters of an accounting register (a named energy counter), from an
+//! office (the event engine) that is opened over a store. A statement is a report on one meter, to
+//! check a bill.
 ghost use Rattle.office_program.specs.Texts.Passing.{Lasts};
 ghost use Rattle.office_program.specs.Statement.{StatementOver};
 
@@ -13,9 +14,9 @@ use office_events::Name;
 use std::alloc::Global;
 use std::io::Write;
 
-/// Opens an event engine for queries, as `report_books` does, and prints the statements of an
-/// accounting register's meters on a range of days. The days are civil days in the store's time
-/// zone.
+/// Opens an event engine for queries, at the clock's time or the store's latest timestamp,
+/// whichever is later. Prints the statements (reports to check a bill) of an accounting register's
+/// meters on a range of days. The days are civil days in the store's time zone.
 ///
 /// If opening the engine or a query is refused, the command prints only `refused N`. If `register`
 /// is no valid name, the engine treats it as an unknown register. Returns the store.

@@ -106,8 +106,8 @@ pub(crate) fn feed_requested<L: Link, B: Books, C: Clock, W: Write>(
     }
 }
 
-// After an event from the link, feeds the event that the polling round generates to the event
-// engine, if there is one. Returns true if the round is over.
+// After an event from the link, feeds the event that the polling round generates, if any, to the
+// event engine. Returns true if the round is over.
 fn follow<L: Link, B: Books, C: Clock, W: Write>(
     progress: &mut Progress,
     link: &mut L,
@@ -154,7 +154,7 @@ fn feed_taken<L: Link, B: Books, C: Clock, W: Write>(
 /// Reads an event from the link and feeds the event to the event engine. Then feeds the event that
 /// the polling round generates, if any.
 ///
-/// Returns true if the polling round is over.
+/// Returns true if the polling round is over after this read of the link.
 pub(crate) fn turn<L: Link, B: Books, C: Clock, W: Write>(
     alloc: Global,
     progress: &mut Progress,

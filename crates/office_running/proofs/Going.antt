@@ -1,5 +1,6 @@
--- Lemmas on the steps of a run (one execution of `sunreg run`) at one timestamp, and on the turns
--- of its event loop.
+-- Lemmas: what the program does in one pass of the event loop of `sunreg run` are steps at one
+-- timestamp. A step processes one event or answers one HTTP connection. Such steps make complete
+-- passes.
 use Rattle.std.proofs.Common.{◌≡◌, ◌⊎◌, inl, inr, ℕ, true, false, Bool, List, [], ◌∷◌, ◌++◌, Option, Some, None, Result, refl, sym, ap, ◌∙◌, subst, append_assoc}
 use Rattle.std.specs.Prelude.{max, position, slice_get, if◌then◌else◌}
 use Rattle.office_events.specs.declared.answers.Answer.{Answer}
@@ -38,10 +39,12 @@ use Rattle.office_program.specs.Texts.Passing.{Lasts}
 use Rattle.run_http.specs.Status.Advice.Lacks.{LooksUp}
 use Rattle.office_running.specs.Runs.{AreAt, BooksRun, Goes, IsOfRound, ReadsClock, RunsOn, Step, Fed, Asks, TakesTurns, TurnsFrom, history_with, latest_of, steps_of, with_step}
 
--- Lemmas on the steps of a run (one execution of `sunreg run`) that have the same timestamp.
+-- Lemmas: a step of `sunreg run` processes one event or answers one HTTP connection. An empty list
+-- of steps has any timestamp. Two lists of steps at one timestamp are together steps at this
+-- timestamp.
 
--- If the program's state is unchanged, then the state follows from an empty list of steps, whatever
--- the timestamp.
+-- If the program's state is unchanged, then it is the state after an empty list of steps (processed
+-- events or answered connections), whatever the timestamp.
 pub goes_none : {B : Type 0} (names : List (List ℕ)) (at : ℕ) (ledger : B → Ledger) (office : Office B) → Goes names at ledger office office
 goes_none names at ledger office = record {
   stands = λ past stands clean. record { steps = []; each = tt; stands = stands };
@@ -58,8 +61,8 @@ each_of_both : {names : List (List ℕ)} (at : ℕ) (later earlier : List (Step 
 each_of_both at [] earlier a b = b
 each_of_both at (one ∷ later) earlier a b = (a.0, each_of_both at later earlier a.1 b)
 
--- If the program makes steps at a timestamp, and then more steps at this timestamp, all of them
--- together are steps at this timestamp.
+-- Suppose that the program makes steps (processed events or answered connections) at a timestamp,
+-- and then more steps at this timestamp. Then all of them together are steps at this timestamp.
 pub goes_both : {B : Type 0} (names : List (List ℕ)) (at : ℕ) (ledger : B → Ledger) (a b c : Office B) → Goes names at ledger a b → Goes names at ledger b c
     → Goes names at ledger a c
 goes_both names at ledger a b c first next = record {
@@ -77,7 +80,8 @@ goes_both names at ledger a b c first next = record {
   zone = next.zone ∙ first.zone;
 }
 
--- Lemmas on steps that process events of devices in one pass of the event loop.
+-- Lemmas: if one pass of the event loop processes events of devices, then these are steps of the
+-- run (processed events or answered connections) at the timestamp of the pass.
 
 abbrev of_events : (names : List (List ℕ)) → List Answered → List (Step names)
 of_events names [] = []
@@ -87,8 +91,8 @@ after_events : (names : List (List ℕ)) (past : History) (fed : List Answered) 
 after_events names past [] = refl
 after_events names past (one ∷ earlier) = ap (λ h. with_answer h one.at one.event one.result) (after_events names past earlier)
 
--- True if the event that a device's polling round generates next, if any, is an event of a polling
--- round (`IsOfRound`).
+-- True if the polling round of a device generates no event next, or generates an event that belongs
+-- to polling rounds (`IsOfRound`).
 abbrev WishesOfRound : Option Event → Type 0
 WishesOfRound None = Unit {0}
 WishesOfRound (Some e) = IsOfRound e
@@ -175,8 +179,8 @@ goes_turn names ledger sees at old new begun failures turned observer opened tur
   zone = lasts.zone;
 }
 
--- If the program processes one event of a polling round, then it has made one step at the event's
--- timestamp.
+-- If the program processes one event of a polling round, then its state advances by exactly one
+-- step of the run (`Goes`): this event, at its timestamp.
 pub goes_fed : {B : Type 0} (names : List (List ℕ)) (ledger : B → Ledger) (at : ℕ) (e : Event) (answer : Result Answer Refusal) (old new : Office B)
     → After ledger old new (λ past. Stands ledger (with_answer past at e answer) new) → Ends ledger old new e answer → IsOfRound e → Goes names at ledger old new
 goes_fed names ledger at e answer old new feeds ends is = record {
@@ -189,7 +193,8 @@ goes_fed names ledger at e answer old new feeds ends is = record {
   zone = ends.zone;
 }
 
--- Lemmas on steps that answer requests of clients in one pass of the event loop.
+-- Lemmas: if one pass of the event loop answers requests of HTTP clients, then these are steps of
+-- the run (processed events or answered connections) at the timestamp of the pass.
 
 abbrev of_connections : (names : List (List ℕ)) → List (Connection names) → List (Step names)
 of_connections names [] = []
@@ -220,7 +225,9 @@ goes_asked names at ledger old new ask = record {
   zone = ask.zone;
 }
 
--- Lemmas on the turns (passes) of the event loop.
+-- Lemmas: a pass of the event loop is complete if the clock was read and then steps (processed
+-- events or answered connections) were taken at the latest clock time. One more such pass can
+-- follow complete passes.
 
 pub no_turns : {B : Type 0} (names : List (List ℕ)) (ledger : B → Ledger) (first : ℕ) (begun : Option (List ℕ)) (office : Office B)
     → TakesTurns names ledger first first begun begun office office
@@ -230,8 +237,9 @@ no_turns names ledger first begun office = record {
   zone = refl;
 }
 
--- Suppose that some passes of the event loop are complete. If the clock is then read once more, and
--- the program makes steps at the latest time, one more pass is complete.
+-- Suppose that some passes of the event loop satisfy the contract `TakesTurns`. If the clock is
+-- read once more, and the program then processes events or answers connections at the latest clock
+-- time, one more pass satisfies it.
 one_turn : {B : Type 0} (names : List (List ℕ)) (ledger : B → Ledger) (first before latest : ℕ) (begun between now : Option (List ℕ)) (a b c : Office B)
     → TakesTurns names ledger first before begun between a b → ReadsClock before latest between now → Goes names latest ledger b c
     → TakesTurns names ledger first latest begun now a c
@@ -269,8 +277,8 @@ first_begins names ledger first latest begun now office reads = record {
   reads = reads;
 }
 
--- If the clock was read for a pass of the event loop, and the program made steps at the latest
--- time, the pass is complete.
+-- Suppose that the clock was read for a pass of the event loop, and the program then processed
+-- events or answered connections at that time. Then the pass satisfies the contract `TakesTurns`.
 pub turn_ends : {B : Type 0} (names : List (List ℕ)) (ledger : B → Ledger) (first latest at : ℕ) (begun now : Option (List ℕ)) (a b c : Office B)
     → at ≡ latest → Begins names ledger first latest begun now a b → Goes names at ledger b c → TakesTurns names ledger first latest begun now a c
 turn_ends names ledger first latest at begun now a b c same begins goes =
@@ -300,10 +308,11 @@ turns_after_asking names ledger first begun now a b c answer asks goes = record 
   };
 }
 
--- Lemmas on a complete run of `sunreg run`, from the opening of the store to the end of the
--- program.
+-- Lemmas: after a complete run of `sunreg run`, the store has the records of its opening and of the
+-- passes of the event loop.
 
--- If the program only reads a store, then the store still has the records of its history.
+-- If the program only reads a store, then the store's records still follow from its history (its
+-- openings and accepted events).
 pub reads_stand : (old new : Ledger) (past : History) → KeepsFacts old new → BooksStand old past → BooksStand new past
 reads_stand old new past keeps stands = record {
   is_past = stands.is_past;
@@ -339,15 +348,16 @@ ran_opened {B = B} names ledger past begun opened now office new books is opens 
       stand = so.stands.books;
     }))
 
--- If the program only queries a store, then the store still has the records of its history.
+-- If the program only queries a store, then the store's records still follow from its history (its
+-- openings and accepted events).
 pub looked_stand : (a b c : Ledger) (past : History) → LooksUp b c → (BooksStand a past → BooksStand b past) → BooksStand a past → BooksStand c past
 looked_stand a b c past looks before stands = reads_stand b c past looks.keeps (before stands)
 
 pub looked_last : (a b c : Ledger) → LooksUp b c → Lasts a b → Lasts a c
 looked_last a b c looks first = record { clean = λ clean. first.clean (looks.clean clean); zone = looks.zone ∙ first.zone }
 
--- If a store is clean after two calls (the program used no wrong result of the store), it was clean
--- before them.
+-- A store is clean if the program used no wrong result of the store. If a store is clean after two
+-- calls, then it was clean before these calls.
 pub lasts_both : (a b c : Ledger) → Lasts a b → Lasts b c → Lasts a c
 lasts_both a b c first next = record { clean = λ clean. first.clean (next.clean clean); zone = next.zone ∙ first.zone }
 

@@ -35,7 +35,8 @@ pub(crate) fn time_from<R: std::rt::Clock>(rt: &R, moment: u64) -> RunTime {
     RunTime::new(base, even_milliseconds(rt))
 }
 
-/// Returns the milliseconds until the next second of the run.
+/// Returns the milliseconds until the next second of the run's own time, which follows the
+/// monotonic clock, begins.
 pub(crate) fn to_next_second<R: std::rt::Clock>(rt: &R, time: &mut RunTime) -> u64 {
     time.read(even_milliseconds(rt));
     time.to_next_second()

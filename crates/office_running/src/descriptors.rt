@@ -5,12 +5,12 @@ use run_schedule::{MOST_CLIENTS, clients_for, needed_limit, wanted_descriptors};
 use std::alloc::{AllocError, Global};
 use std::net::Net;
 
-/// The recommended limit on open file descriptors suffices for this number of devices, even if the
-/// run has fewer.
+/// The number of devices for which the recommended limit on open file descriptors suffices, even if
+/// the run has fewer devices.
 const MOST_DEVICES: usize = 64;
 
-/// The number of clients that a run accepts at once, if there are too few file descriptors for the
-/// maximum number of clients.
+/// The number of clients that `sunreg run` accepts at once, if there are too few file descriptors
+/// for the maximum number of clients.
 #[derive(Clone, Copy)]
 pub(crate) struct FewClients {
     pub(crate) clients: usize,
@@ -19,8 +19,8 @@ pub(crate) struct FewClients {
     pub(crate) limit: usize,
 }
 
-// Counts the file descriptors that the process may still open, up to `most`. It opens that many and
-// closes them again, to find out how many are free.
+// Counts the file descriptors that the process may still open, up to `most`. The function opens
+// this many descriptors and closes them again, to find out how many are free.
 fn count_descriptors<R: Net>(rt: &R, alloc: Global, most: usize) -> Result<usize, AllocError> {
     let mut opened = Vec::new(alloc);
     for _descriptor in 0..most {
@@ -34,9 +34,9 @@ fn count_descriptors<R: Net>(rt: &R, alloc: Global, most: usize) -> Result<usize
 
 /// Returns the number of clients that a run with `devices` devices accepts at once.
 ///
-/// If that number is less than the maximum, the function also returns the recommended limit on open
-/// file descriptors. Call this function when everything is open except the connections of devices
-/// and clients.
+/// If fewer than the maximum number of clients can be served at once, also returns the recommended
+/// limit on open file descriptors. Call this function when everything is open except the
+/// connections of devices and clients.
 pub(crate) fn find_clients<R: Net>(
     rt: &R,
     alloc: Global,

@@ -26,11 +26,13 @@ use std::net::Net;
 /// loop. The responses to all Modbus requests in progress always fit in fewer chunks.
 const MOST_PIECES: u32 = 64;
 
-// After an event with bytes from a device was processed, passes the answer to the device's polling
-// round. Passes notifications of ended polls and readings to all rounds.
+// After an event with bytes from a device was processed, passes the event engine's answer to the
+// device's polling round. Passes notifications of ended polls and of readings to the polling rounds
+// of all devices.
 //
-// The device's round gets the answer only while it waits for responses. A round that is about to
-// start reads would mistake this answer for the answer to that start.
+// The device's polling round gets the event engine's answer only while the round waits for
+// responses. A round that is about to start reads would take this answer for the answer to its
+// start command.
 fn pass_answer_to_rounds(
     rounds: &mut [Round],
     place: usize,
@@ -45,7 +47,8 @@ fn pass_answer_to_rounds(
     }
 }
 
-/// The devices of a run: for each, its connection and the state of its polling round.
+/// The devices that one run of the event loop polls: the connection of each device and the state of
+/// its polling round.
 #[derive(Drop)]
 pub(crate) struct Polling {
     every: u64,
@@ -54,8 +57,8 @@ pub(crate) struct Polling {
 }
 
 impl Polling {
-    /// Creates the devices of a run. Each device waits for its first polling round until the next
-    /// multiple of `every` seconds.
+    /// Creates the states of all devices that one run of the event loop polls. Each device waits
+    /// for its first polling round until the next multiple of `every` seconds.
     pub(crate) fn new(
         alloc: Global,
         sites: &[Site],
@@ -94,7 +97,7 @@ impl Polling {
     }
 
     // Closes the connection to a device after a failure to connect. Prints that the device is
-    // unreachable, if its state was different before.
+    // unreachable, unless this was already its state.
     fn fail(&mut self, place: usize, voice: &mut Voice, now: Now) {
         if place < self.slots.len() {
             let every = self.every;
@@ -175,8 +178,8 @@ impl Polling {
         }
     }
 
-    /// Processes a device event, and then each follow-up event that the polling rounds generate.
-    /// Sends the resulting Modbus requests to the devices.
+    /// Processes a device event, and then each event that the polling rounds generate in
+    /// consequence. Sends the resulting Modbus requests to the devices.
     pub(crate) fn feed<B: Books>(
         &mut self,
         device_event: DeviceEvent,
@@ -293,8 +296,9 @@ impl Polling {
 
     // Processes the bytes of one device, at the end of a pass of the event loop.
     //
-    // The follow-up events that the device's polling round generates wait for the next pass. A read
-    // that started with the timestamp of this pass would have a shorter timeout.
+    // From these bytes, the device's polling round may generate further events. They are processed
+    // only in the next pass of the event loop. A read that started with the timestamp of this pass
+    // would have a shorter timeout.
     fn hear<B: Books>(
         &mut self,
         place: usize,
@@ -367,8 +371,8 @@ impl Polling {
         }
     }
 
-    /// Processes the next event of the device with this index, with at most one chunk of bytes.
-    /// Returns whether there was an event.
+    /// Processes the next event of the device with this index, reading at most one chunk of bytes.
+    /// Returns whether the device had an event.
     #[tactic(auto, using(crate::proofs::Going::goes_none, crate::proofs::Going::goes_both))]
     pub(crate) fn attend<B: Books>(
         &mut self,

@@ -12,10 +12,10 @@ use std::alloc::Global;
 use std::io::Read;
 use std::net::Net;
 
-/// The result of checking the connection to a device.
+/// What the program found when it checked the connection to a device.
 #[derive(Drop)]
 pub(crate) enum Seen {
-    /// Nothing has happened on the connection since the previous check.
+    /// Nothing has happened on the connection to the device since the previous check.
     Nothing,
     /// The connection to the device is established.
     Stands,
@@ -39,8 +39,8 @@ pub(crate) struct Slot {
     alloc: Global,
     stream: Option<TcpStream>,
     unsent: Outbox,
-    /// How the connection ended, if the method `listen` found its end. The next check of the
-    /// connection reports that end.
+    /// How the connection to the device ended, if the method `listen` (which reads from the
+    /// connection) found its end. The next check of the connection reports that end.
     ended: Option<Closing>,
 }
 
@@ -64,7 +64,7 @@ fn spacing(every: u64) -> u64
     every.max(1).min(MOST_EVERY)
 }
 
-// Returns a time in seconds, limited so that adding the time between polling rounds cannot
+// Returns `time`, in seconds, limited so that adding the time between polling rounds cannot
 // overflow.
 fn bounded(time: u64) -> u64
     ensures { result ≤ 2 ^ 62 }
@@ -139,7 +139,8 @@ impl Slot {
         self.timing.fail(spacing(every), bounded(time));
     }
 
-    // Checks whether a new connection is established, is still pending or has failed.
+    // Checks whether the new connection to the device is established, is still pending or has
+    // failed.
     fn connection(&self) -> Seen {
         match &self.stream {
             Some(stream) => match is_connected(stream) {
@@ -151,8 +152,8 @@ impl Slot {
         }
     }
 
-    // Returns the bytes that arrived from the device as the result of a check. Without memory for a
-    // copy, the connection counts as failed.
+    // Returns the result of a check of the connection: the bytes that arrived from the device. If
+    // memory for a copy of the bytes runs out, the connection counts as failed.
     fn piece(&self, bytes: &[u8]) -> Seen {
         match bytes.to_vec(self.alloc) {
             Ok(bytes) => Seen::Bytes(bytes),
@@ -183,8 +184,8 @@ impl Slot {
         }
     }
 
-    // Sends as many of the unsent bytes as the socket accepts. Returns whether the connection still
-    // works.
+    // Sends as many of the bytes that wait for the device as the socket accepts. Returns whether
+    // the connection still works.
     fn send(&mut self) -> bool {
         match &self.stream {
             Some(stream) => self.unsent.write_all(stream) != Went::Over,
@@ -201,8 +202,8 @@ impl Slot {
         }
     }
 
-    // Checks whether bytes arrived, or the connection was established or has ended. Also sends
-    // unsent bytes.
+    // Checks whether bytes arrived from the device, or the connection to it was established or has
+    // ended. Also sends unsent bytes.
     fn see(&mut self) -> Seen {
         match self.ended {
             Some(Closing::Gone) => return Seen::Closed,
@@ -222,8 +223,9 @@ impl Slot {
         }
     }
 
-    /// Checks the connection for bytes, its establishment or its end. The device stays marked as
-    /// ready if bytes arrived or the connection was established, because more bytes may follow.
+    /// Checks whether bytes arrived from the device, or the connection to it was established or has
+    /// ended. If bytes arrived or the connection was established, the device stays marked as ready,
+    /// because more bytes may follow.
     pub(crate) fn look(&mut self) -> Seen {
         let seen = self.see();
         self.ready = matches!(seen, Seen::Stands | Seen::Bytes(_));

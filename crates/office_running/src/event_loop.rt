@@ -56,7 +56,7 @@ impl End {
     }
 }
 
-/// The state of a run: its sockets, its devices, its HTTP port and its output.
+/// The state of a run of `sunreg run`: its sockets, its devices, its HTTP port and its output.
 #[derive(Drop)]
 struct Running {
     poll: Poll,
@@ -73,8 +73,8 @@ struct Running {
     /// The time of the run's own clock in the present pass of the event loop, in seconds since
     /// 1970-01-01 UTC.
     time: u64,
-    /// Whether the present pass of the event loop has a timer event. It has one if the run's own
-    /// clock or the timestamp has advanced since the previous pass.
+    /// Whether the present pass of the event loop has a timer event. It has one if the time of the
+    /// run's own clock, or the timestamp, is greater than in the previous pass.
     ticks: bool,
 }
 
@@ -116,8 +116,8 @@ fn listen<R: Net>(rt: &R, registry: &Registry, addr: SocketAddr) -> Result<TcpLi
 
 // Creates the HTTP server on a listening socket.
 //
-// The server accepts `clients` clients at once. The settings limit the total size of the commands
-// that it stores.
+// The server accepts `clients` clients at once. `settings` limits the total size of the commands
+// that the store keeps with their responses, to detect retries.
 fn port_of(
     alloc: Global,
     listener: TcpListener,
@@ -166,8 +166,8 @@ impl Running {
         })
     }
 
-    // Prints queued lines and messages without blocking. Ignores a failure to write to standard
-    // error.
+    // Prints queued lines to standard output and queued messages to standard error, without
+    // blocking. Ignores a failure to write to standard error.
     fn print<W: Write, E: Write>(
         &mut self,
         now: Now,
@@ -187,7 +187,8 @@ impl Running {
     }
 
     // Checks whether an open file of the store was removed, replaced or cut short, and reports such
-    // a loss. After a loss, the run executes no command, because its records might be lost.
+    // a loss. After a loss, the run executes no command, because the command's records might be
+    // lost.
     fn find_loss<R: Files>(&mut self, rt: &R) {
         if let Some(lost) = self.files.look(rt) {
             self.voice.say_lost(self.files.path(lost.index), lost.loss);
@@ -202,8 +203,8 @@ impl Running {
 
     // Checks that no open file of the store was removed, replaced or cut short.
     //
-    // After such a loss, the run ends a second or two later, so that clients that have just
-    // connected still get a response.
+    // After a file of the store was removed, replaced or cut short, the run ends a second or two
+    // later. So clients that have just connected still get a response.
     fn look_at_files<R: Files>(&mut self, rt: &R) {
         match self.lost_at {
             Some(time) => {
@@ -222,8 +223,9 @@ impl Running {
         self.polling.begin_all(rt, self.poll.registry(), FIRST_DEVICE, &mut self.voice, now);
     }
 
-    // If this pass of the event loop has a timer event, processes the event, and does the work that
-    // is done once a second.
+    // If this pass of the event loop has a timer event (one in each second), processes the event
+    // and drops the cached HTTP response. Then drops client connections that are complete or past
+    // their deadline, and begins to connect to devices that are due.
     #[tactic(auto, using(crate::proofs::Going::goes_none, crate::proofs::Going::goes_both))]
     fn tick<R: Net, B: Books>(&mut self, rt: &R, office: &mut Office<B>, now: Now)
         ensures { (names : List (List ℕ))
@@ -265,17 +267,17 @@ impl Running {
     }
 
     // If a device event was processed, discards the cached HTTP response, because the event may
-    // have changed the data in it.
+    // have changed the data in this response.
     fn note_fed(&mut self, has_fed: bool) {
         if has_fed {
             self.port.forget_replies();
         }
     }
 
-    // Processes the next event of the device with this index, if there is one.
+    // Processes the next event of the device with the index `place`, if this device has an event.
     //
-    // After an event, the function also serves the clients. A client therefore waits for at most
-    // one event of a device.
+    // After the device's event, the function also serves the HTTP clients. A client therefore waits
+    // for at most one event of a device.
     fn attend_device<R: std::rt::Clock + Files, B: Books>(
         &mut self,
         rt: &R,
@@ -295,7 +297,8 @@ impl Running {
         }
     }
 
-    // Processes the next event of each device that has one. Serves the clients after each event.
+    // Processes the next event of each device that has an event. Serves the HTTP clients after each
+    // event.
     fn attend_devices<R: std::rt::Clock + Files, B: Books>(
         &mut self,
         rt: &R,
@@ -312,7 +315,7 @@ impl Running {
         }
     }
 
-    // Processes the next event of each device, and serves the clients.
+    // Processes the next event of each device, if any, and serves the HTTP clients.
     fn attend_all<R: Net + std::rt::Clock + Files, B: Books>(
         &mut self,
         rt: &R,
@@ -346,8 +349,8 @@ impl Running {
         }
     }
 
-    // Processes the next event of each device, and serves the clients. If the run's time is up,
-    // also ends the polling rounds. Returns whether the time is up.
+    // Processes the next event of each device, if any, and serves the HTTP clients. If the run's
+    // time is up, also ends the polling rounds. Returns whether the time is up.
     fn act<R: Net + std::rt::Clock + Files, B: Books>(
         &mut self,
         rt: &R,
@@ -370,7 +373,7 @@ impl Running {
     }
 
     // Returns the maximum number of milliseconds to wait for sockets: until the next second begins.
-    // Returns 0 if there is work to do, or if a new second has begun.
+    // Returns 0 if a device or an HTTP client can be served now, or if a new second has begun.
     fn patience<R: std::rt::Clock>(&self, rt: &R, time: &mut RunTime) -> u64 {
         if self.polling.is_ready() || self.port.is_ready() {
             return 0;
@@ -479,10 +482,10 @@ impl Running {
 
     // Ends a pass of the event loop, and returns the timestamp of the next pass.
     //
-    // The clocks are read first. If the next pass has a timer event, the function then processes
-    // the bytes that devices have sent, with the timestamp of the present pass. A response that
-    // arrived before its deadline therefore never counts as a timeout, even if the process was
-    // delayed.
+    // The function first reads the clocks. If the next pass of the event loop has a timer event, it
+    // then processes the bytes that devices have sent, with the timestamp of the present pass. A
+    // response that arrived before its deadline therefore never counts as a timeout, even if the
+    // process was delayed.
     #[tactic(auto, using(crate::proofs::Going::goes_none))]
     fn end_turn<R: std::rt::Clock, B: Books, C: Clock>(
         &mut self,
@@ -508,7 +511,7 @@ impl Running {
         moment
     }
 
-    // Performs passes of the event loop until the run's time is up.
+    // Performs passes of the event loop until the end time of `sunreg run`.
     fn turns<R: Net + std::rt::Clock + Files, B: Books, C: Clock, W: Write, E: Write>(
         &mut self,
         rt: &R,
@@ -544,7 +547,8 @@ impl Running {
     }
 }
 
-// Returns when a run ends, if the run begins when its own clock shows `now`.
+// Returns the time at which an execution of `sunreg run` ends, if it begins when its own clock
+// shows `now`.
 fn end_of(settings: &Settings<'_>, now: u64) -> End
     ensures time { result.time ≡ time_after settings.now.lasts now }
     ensures moment { result.moment ≡ moment_of settings.now.ends }
@@ -559,7 +563,7 @@ fn end_of(settings: &Settings<'_>, now: u64) -> End
 }
 
 // Opens the HTTP port of a run. Prints the timestamp of the store's latest record, the number of
-// earlier polls whose end is not recorded, and the port.
+// polls of earlier runs without a recorded outcome, and the port's number.
 fn open<R: Net + Files, W: Write>(
     rt: &R,
     alloc: Global,
@@ -628,10 +632,10 @@ fn run_from<R: Net + std::rt::Clock + Files, B: Books, C: Clock, W: Write, E: Wr
 }
 
 /// Polls the devices and serves HTTP, until the run's time is up. First prints the timestamp of the
-/// store's latest record, and the number of earlier polls whose end is not recorded.
+/// store's latest record, and the number of polls of earlier runs without a recorded outcome.
 ///
-/// The function makes the first query of the web page once at the beginning. A store that caches
-/// results can later answer this query from its cache, so polling does not wait for the query.
+/// `run_open` makes the first query of the web page once, before it begins to poll. A store that
+/// caches results can later answer this query from its cache, so the query does not delay polling.
 pub(crate) fn run_open<R: Net + std::rt::Clock + Files, B: Books, C: Clock, W: Write, E: Write>(
     rt: &R,
     alloc: Global,

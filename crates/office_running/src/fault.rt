@@ -5,7 +5,7 @@ use std::error::Error;
 use std::fmt;
 use std::fmt::{Display, Formatter};
 
-/// The reason why a run ended early.
+/// The reason why a run of `sunreg run` ended early.
 #[derive(Clone, Copy, Debug, PartialEq, Eq)]
 pub enum RunFault {
     /// The program could not start on its store. It printed the reason, and the command ends with

@@ -1,5 +1,5 @@
-//! Watches the store's open files, to detect when one was removed, replaced or cut short. Records
-//! that are written to such a file would be lost.
+//! Watches the store's open files, to detect when a file was removed, replaced or cut short.
+//! Records that are written to such a file would be lost.
 use crate::http::RunSystem;
 use run_schedule::{FileLoss, FileMark, file_loss};
 use std::alloc::{AllocError, Global};
@@ -47,9 +47,9 @@ fn mark_at<R: Files>(rt: &R, path: &str) -> io::Result<Option<FileMark>> {
     }
 }
 
-// Returns the device, inode and size of an open file. If the path has no file or cannot be checked,
-// the result matches no file. Any file that a later check finds at the path then counts as a
-// replacement.
+// Returns the device, inode and size of the file at a path, which the store has open. If the path
+// has no file or cannot be checked, the result matches no file. Any file that a later check finds
+// at the path then counts as a replacement.
 fn first_mark<R: Files>(rt: &R, path: &str) -> FileMark {
     match mark_at(rt, path) {
         Ok(Some(mark)) => mark,
@@ -94,7 +94,8 @@ impl WatchedFile {
 }
 
 impl FileWatch {
-    /// Begins to watch the store's open files, whose paths are `paths`.
+    /// Begins to watch the store's open files, whose paths are `paths`. A later check then finds a
+    /// file that was removed, replaced or cut short.
     pub(crate) fn open<R: Files>(
         rt: &R,
         alloc: Global,
@@ -120,7 +121,8 @@ impl FileWatch {
         None
     }
 
-    /// Returns the path of the file with this index; an empty path if there is no such file.
+    /// Returns the path of the file with this index in the list of the store's open files. Returns
+    /// an empty path if the list has no such index.
     pub(crate) fn path(&self, index: usize) -> &str {
         match self.files.get(index) {
             Some(file) => file.path.as_str(),

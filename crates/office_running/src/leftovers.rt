@@ -16,7 +16,7 @@ use std::io::Write;
 /// outcome.
 #[derive(Clone, Copy)]
 pub(crate) struct Left {
-    /// The timestamp of the latest record, in seconds since 1970-01-01 UTC.
+    /// The timestamp of the store's latest record, in seconds since 1970-01-01 UTC.
     pub(crate) latest: u64,
     /// The number of polls whose outcome the store does not have.
     pub(crate) waiting: usize,
@@ -56,10 +56,10 @@ pub(crate) fn print_left<W: Write>(left: Option<Left>, output: &mut W) -> Result
     }
 }
 
-/// Reports on `errors` that the program cannot start on a store, if the store's latest record is
-/// later than the clock. The report has both times, and says what to do.
+/// Writes to `errors` that the program cannot start on a store, if the store's latest record is
+/// later than the clock. The message has both times, and says what to do.
 ///
-/// Returns whether the latest record is later than the clock.
+/// Returns true if the store's latest record is later than the clock.
 pub fn say_ahead<E: Write>(latest: u64, now: u64, errors: &mut E) -> bool
     ensures ahead { result ≡ nat_lt now latest }
     ensures silent { result ≡ false → errors.new ≡ errors.old }

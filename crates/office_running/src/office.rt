@@ -19,7 +19,7 @@ use std::io::Write;
 use std::net::Net;
 use std::rt::Files;
 
-/// The store after a run, and the result of the run.
+/// The store after a run of `sunreg run`, and the result of the run.
 #[derive(Drop)]
 pub struct Ran<B> {
     pub books: B,
@@ -31,11 +31,12 @@ pub struct Ran<B> {
 ///
 /// Prints the timestamp of the latest record and the number of lost polls, and `listening PORT`
 /// when the port is open. Then prints a line for each event. If a slow reader lets the queue of
-/// lines fill, further lines are dropped and counted. Reports on `errors`, once each, what a device
+/// lines fill, further lines are dropped and counted. Writes to `errors`, once each, what a device
 /// lacks, and the meaning of each refusal and each rejected reading.
 ///
 /// While the clock shows an earlier time than the latest timestamp, events get the latest
-/// timestamp. The run reports that once. All timestamps are in seconds since 1970-01-01 UTC.
+/// timestamp. The run reports once that the clock was set back. All timestamps are in seconds since
+/// 1970-01-01 UTC.
 pub fn run_office<R: Net + std::rt::Clock + Files, B: Books, C: Clock, W: Write, E: Write>(
     rt: &R,
     alloc: Global,

@@ -50,7 +50,8 @@ impl Gauge {
     }
 
     // Returns whether a write to the file descriptor would not block. Registering the descriptor
-    // again makes the system check it now. If registering fails, the function returns true.
+    // again with the event queue makes the system check this now. If registering fails, the
+    // function returns true.
     fn is_writable(&mut self) -> bool {
         let registered = self.poll.registry().reregister(
             &mut SourceFd(&self.descriptor),
@@ -72,8 +73,8 @@ impl Gauge {
 
 /// An output, such as standard output, whose lines are written without blocking.
 ///
-/// Lines that the reader does not accept yet wait in a queue. If the queue is full, new lines are
-/// dropped and counted.
+/// Lines that can't be written yet without blocking wait in a queue. If the queue is full, new
+/// lines are dropped and counted.
 #[derive(Drop)]
 pub(crate) struct Outlet {
     queue: LineQueue,
@@ -102,7 +103,7 @@ impl Outlet {
         }
     }
 
-    // Returns how many queued bytes the next write can take without blocking.
+    // Returns how many bytes of the queued output lines the next write can take without blocking.
     fn room(&mut self) -> usize {
         let waiting = self.queue.waiting().len();
         if waiting == 0 {
@@ -120,7 +121,7 @@ impl Outlet {
         }
     }
 
-    // Writes and flushes the first `count` queued bytes.
+    // Writes the first `count` queued bytes to the output, and flushes the output.
     fn write_piece<W: Write>(&mut self, count: usize, output: &mut W) -> io::Result<()> {
         let waiting = self.queue.waiting();
         let piece = waiting.get(..count).unwrap_or(waiting);

@@ -18,9 +18,9 @@ use std::{io, mem};
 #[derive(Clone, Copy, PartialEq, Eq)]
 pub(crate) enum Standing {
     Unknown,
-    /// The device answered at least one poll of its last round.
+    /// The device answered at least one poll of its last polling round.
     Answers,
-    /// The device was connected, but answered no poll of its last round.
+    /// The device was connected, but answered no poll of its last polling round.
     Silent,
     /// No connection to the device was established.
     Unreachable,
@@ -29,14 +29,15 @@ pub(crate) enum Standing {
 /// The recorder of the program's events. It collects the figures of the HTTP page `/status`, the
 /// lines for standard output, and the messages for standard error.
 ///
-/// If memory runs out, a line or a message is omitted or cut off.
+/// If memory runs out, a line of output or a message is omitted or cut off.
 #[derive(Drop)]
 pub(crate) struct Voice {
     pub(crate) monitor: RunMonitor,
-    /// Whether the run must end early, because the program refuses everything until a restart, or
-    /// because an open file of the store is lost.
+    /// Whether `sunreg run` must end early, because the program refuses everything until a restart,
+    /// or because an open file of the store is lost.
     pub(crate) stopped: bool,
-    /// What the devices lacked when the run began, such as a point list.
+    /// What the store lacked for the polled devices when the command `run` began, such as a point
+    /// list.
     pub(crate) lacks: Vec<DeviceLack>,
     alloc: Global,
     names: Vec<Option<Name>>,
@@ -44,7 +45,8 @@ pub(crate) struct Voice {
     lines: Vec<u8>,
     said: Vec<u8>,
     reported: Reported,
-    /// Whether the run has reported that it has no room for more commands (`--most-kept`).
+    /// Whether `sunreg run` has already reported that the stored commands reached the limit
+    /// `--most-kept`.
     is_full: bool,
 }
 
@@ -139,7 +141,8 @@ impl Voice {
         });
     }
 
-    /// Reports on standard error what each device lacks.
+    /// Reports on standard error what is missing in the store for each device, such as a point list
+    /// or an open meter.
     pub(crate) fn say_lacks(&mut self) {
         for place in 0..self.lacks.len() {
             if place < self.lacks.len() {
@@ -181,7 +184,8 @@ impl Voice {
         let _done = append_bytes(&mut self.lines, b"\n");
     }
 
-    /// Reports that the clock is `seconds` seconds before the latest timestamp of the run.
+    /// Reports that the clock is `seconds` seconds before `moment`, the timestamp of the latest
+    /// record. New records get this timestamp until the clock has caught up.
     pub(crate) fn report_set_back(&mut self, moment: u64, seconds: u64) {
         let _done = write_number(&mut self.lines, b"", moment);
         let _done = write_number(&mut self.lines, b" clock set back ", seconds);
@@ -207,8 +211,8 @@ impl Voice {
         );
     }
 
-    /// Reports, only once in a run, that a command got status 503 because the stored commands have
-    /// reached the limit `--most-kept`.
+    /// Reports, only once in a run of `sunreg run`, that HTTP commands get status 503 because the
+    /// stored commands have reached the limit `--most-kept`.
     pub(crate) fn say_full(&mut self) {
         if !self.is_full {
             self.is_full = true;
@@ -236,7 +240,7 @@ impl Voice {
     }
 
     /// Reports that an open file of the store was removed, replaced or cut short. Control bytes in
-    /// its path are printed as `?`, so that the report is one line.
+    /// the file's path are printed as `?`, so that the report is one line.
     pub(crate) fn say_lost(&mut self, path: &str, loss: FileLoss) {
         let _done = append_bytes(&mut self.said, b"sunreg: ");
         for byte in path.as_bytes() {
@@ -256,7 +260,7 @@ impl Voice {
     }
 
     /// Reports that an open file of the store was missing when a command was committed, and that
-    /// the run stops.
+    /// `sunreg run` therefore stops.
     pub(crate) fn say_gone(&mut self) {
         let _done = append_bytes(
             &mut self.said,
@@ -278,8 +282,9 @@ impl Voice {
         }
     }
 
-    /// Prints how many polls of a round were answered, timed out or failed. Returns the state of
-    /// the device after the round. A round without a completed poll does not change the state.
+    /// Prints how many polls of a polling round were answered, timed out or failed. Returns the
+    /// state of the device after the round. A round without a completed poll does not change the
+    /// state.
     pub(crate) fn report_round(
         &mut self,
         at: u64,
@@ -311,7 +316,8 @@ impl Voice {
     }
 }
 
-// Returns the topic of a refusal of this event: the device's connection, or its polling round.
+// Returns the topic of a refusal of this event, under which the refusal is reported: the device's
+// connection, or its polling round.
 fn topic_of(event: &Event) -> Topic {
     match event {
         Event::Connected(_) => Topic::Connection,
@@ -320,8 +326,8 @@ fn topic_of(event: &Event) -> Topic {
 }
 
 impl Voice {
-    // Reports why the program refused an event of a device, unless the previous report on this
-    // topic and device gave the same reason.
+    // Reports why the program refused an event of a device, unless the previous report on the same
+    // device and topic (connection or polling round) gave the same reason.
     fn say_refusal(&mut self, device: &Option<Name>, event: &Event, why: Refusal) {
         let is_new = self.reported.report_once(ReportedNumber {
             topic: topic_of(event),
@@ -333,8 +339,9 @@ impl Voice {
         }
     }
 
-    // Reports a refusal of a device event. After an accepted connection or an accepted start of
-    // reads, a later refusal is reported even if an earlier report gave the same reason.
+    // Reports a refusal of a device event. If the event was an accepted connection or an accepted
+    // start of reads instead, clears the earlier report, so that the next refusal is reported even
+    // for the same reason.
     fn say_answer(
         &mut self,
         device: &Option<Name>,
@@ -353,7 +360,7 @@ impl Voice {
     }
 
     // Reports why a reading of a meter was rejected, unless the previous report on the meter gave
-    // the same reason. An accepted reading clears that report.
+    // the same reason. An accepted reading clears the previous report.
     fn say_note(&mut self, note: &Note) {
         match note {
             Note::Outcome { .. } => {}
@@ -372,7 +379,7 @@ impl Voice {
     }
 
     // Reports on standard error why the program refused a device event, and why it rejected
-    // readings.
+    // readings of meters.
     fn say(
         &mut self,
         device: &Option<Name>,

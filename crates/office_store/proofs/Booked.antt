@@ -1,4 +1,5 @@
--- Proofs about adding a meter's energy in single quarter hours to its rows of `intervals`.
+-- Proofs about adding a meter's energy in single quarter hours to the meter's rows of `intervals`,
+-- the table of energy by quarter hour.
 use Rattle.std.proofs.Common.{◌≡◌, ℕ, ◌+◌, ◌==◌, ◌&&◌, ◌||◌, Bool, true, false, cond, inl, inr, List, [], ◌∷◌, ◌++◌, map, filter, refl, sym, ap, ap₂, subst, ◌∙◌, bytes_eq, IsPermutation, arith}
 use Rattle.std.specs.List.{list_any}
 use Rattle.std.proofs.lemmas.Bool.{cases_Bool, cond-true, cond-false}
@@ -15,8 +16,8 @@ use Rattle.office_store.specs.Intervals.StepShares.{raised, with_share, with_sha
 use Rattle.office_store.specs.Rows.{interval_of}
 use Rattle.office_store.proofs.Passing.{map_agree, any_agree, filter_edited, filter_spared, any_filter, any_permutation, any_map}
 
--- Lemmas on adding a quarter hour's energy to the list of quarter hours that is computed from a
--- meter's entries.
+-- Lemmas: adding a quarter hour's energy to the list of quarter hours of a meter changes the
+-- quarter hour with this start, or appends a new one.
 
 abbrev pub has_start : ℕ → Share → Bool
 has_start start row = row.start == start
@@ -92,7 +93,8 @@ apart_with share rows h =
       | inr none ↦ subst AreApart (sym (stands_after share rows none)) (apart_after share rows h none)
     ]
 
--- Lemmas on adding a quarter hour's energy to a meter's rows of the table `intervals`.
+-- Lemmas: if a quarter hour's energy is added to a meter's rows of the table `intervals`, these
+-- rows still have the energy that is computed from the meter's entries.
 
 pub itself : (meter : List ℕ) → bytes_eq meter meter ≡ true
 itself meter = (bytes_eq-Decides meter meter).1 refl
@@ -117,8 +119,9 @@ any_there meter start rows shares are =
     ∙ any_map (is_at meter start) (interval_of meter) shares
     ∙ any_agree (λ share. is_at meter start (interval_of meter share)) (has_start start) (at_start meter start) shares
 
--- If a meter's rows of `intervals` agree with the energy that is computed from the meter's entries,
--- they still agree after corresponding changes of both.
+-- Suppose that a meter's rows of `intervals` equal the energy by quarter hour that is computed from
+-- its entries. If one function changes each row, and a matching function changes each computed
+-- quarter hour, they are still equal.
 edited : (meter : List ℕ) (f : Interval → Interval) (h : Share → Share) (rows : List Interval) (shares : List Share)
     → ((i : Interval) → (f i).meter ≡ i.meter) → ((share : Share) → f (interval_of meter share) ≡ interval_of meter (h share))
     → AreRowsOf meter rows shares → AreRowsOf meter (map f rows) (map h shares)
@@ -144,7 +147,7 @@ raise_meter true share i = refl
 raise_meter false share i = refl
 
 -- If the energy of one quarter hour is added both to `intervals` and to the energy that follows
--- from the meter's entries, the two still agree.
+-- from the meter's entries, the table and this energy are still equal.
 pub booked_one : (meter : List ℕ) (share : Share) (rows : List Interval) (shares : List Share) → AreApart shares → AreRowsOf meter rows shares
     → AreRowsOf meter (with_share meter share rows) (journal.with_share share shares)
 booked_one meter share rows shares apart are =

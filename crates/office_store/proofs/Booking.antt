@@ -1,5 +1,5 @@
--- Proofs that the store stores the records that a transaction wrote to the tables, as the trait
--- `Books` requires.
+-- Proofs that the store has the records that a transaction wrote to the SQL tables, as the contract
+-- of `Books` (the interface of a store) requires.
 use Rattle.std.proofs.Common.{◌≡◌, ℕ, List, [], true, false, refl, sym, subst, Result, Ok, Err, IsTrue}
 use Rattle.sqlite.specs.Store.{Ghosts}
 use Rattle.sqlite.specs.Held.{Held, state}
@@ -17,9 +17,9 @@ use Rattle.office_store.specs.Laws.Laws.{DatabasesTellTheirFacts}
 use Rattle.office_store.specs.Answers.{answer_of}
 use Rattle.office_store.specs.Stored.{IsStored, ledger_of}
 
--- If a connection's database encodes one list of records with one time zone and another list with
--- another, the two time zones are equal. It therefore also encodes the first list with the second
--- zone.
+-- If a connection's database encodes a list of records with the time zone `zone` and a list with
+-- the time zone `other`, these zones are equal. The database therefore also encodes the first list
+-- with `other`.
 pub known_in : {S : Type 0} → DatabasesTellTheirFacts → (g : Ghosts S) (zone other : List ℕ) (h : Held S) (facts others : List Fact)
     → HoldsFacts g zone h facts → HoldsFacts g other h others → HoldsFacts g other h facts
 unfolding HoldsFacts

@@ -1,5 +1,5 @@
--- Proofs about the stored records after one transaction: which records a connection reads, and
--- which records a crash leaves.
+-- Proofs about the stored records after one transaction: which records a database connection reads,
+-- and which records a crash leaves.
 use Rattle.std.proofs.Common.{◌≡◌, ◌≢◌, ℕ, inl, inr, List, [], ◌∷◌, ◌++◌, Ok, Err, Result, IsTrue, OnOk, OnErr, refl, sym, ap, subst, ◌∙◌, arith}
 use Rattle.std.specs.Prelude.{reverse}
 use Rattle.sqlite.specs.Store.{Ghosts}
@@ -33,7 +33,7 @@ by_err (Ok x) f = tt
 by_err (Err e) f = f e refl
 
 -- If a call commits nothing, a crash after the call leaves only records that a crash before the
--- call could leave.
+-- call could already leave.
 pub quiet_leaves : {S : Type 0} (g : Ghosts S) (zone : List ℕ) (old new : Held S) (left : List (List Fact)) → Survives (state g old) (state g new) (λ _. ⊥) → LeavesFacts g zone old left → LeavesFacts g zone new left
 unfolding LeavesFacts
 quiet_leaves g zone old new left quiet leaves clean trees it = elim (quiet.crash clean trees it) [
@@ -47,8 +47,8 @@ more_leaves g zone h left more leaves clean trees it =
     let one = leaves clean trees it in
     record { facts = one.facts; one = one_more left more one.facts one.one; db = one.db; has = one.has; same = one.same }
 
--- If a call keeps the committed rows unchanged, the connection has the same records before and
--- after the call.
+-- If a call keeps the committed rows unchanged, the database connection has the same records before
+-- and after the call.
 pub kept_holds : {S : Type 0} (g : Ghosts S) (zone : List ℕ) (old new : Held S) (facts : List Fact) → (HasCleanDisk (state g new) → HasCleanDisk (state g old)) → (HasCleanDisk (state g new) → KeepsCommit (state g old) (state g new))
     → HoldsFacts g zone old facts → HoldsFacts g zone new facts
 unfolding HoldsFacts
@@ -65,7 +65,8 @@ module _ {S X E : Type 0} (g : Ghosts S) (zone : List ℕ) (old mid new : Held S
   first : HasCleanDisk (state g new) → HasCleanDisk (state g old)
   first clean = omega (arith, does.survives.clean, quiet.clean)
 
-  -- If a connection has the records `facts`, its tables encode `facts` when a transaction begins.
+  -- If a database connection has the records `facts`, its tables encode `facts` when a transaction
+  -- begins.
   found : (facts : List Fact) → HoldsFacts g zone old facts → HasCleanDisk (state g new) → HasFacts zone facts (state g mid).now
   unfolding HoldsFacts
   found facts holds clean =
@@ -96,8 +97,8 @@ module _ {S X E : Type 0} (g : Ghosts S) (zone : List ℕ) (old mid new : Held S
       let m = kept (early clean) in
       subst (HasFacts zone facts) (sym (k.committed still ∙ m.committed (k.was_open still))) (holds (first clean) (m.was_open (k.was_open still))))
 
-  -- If a crash can leave only the last commit, and this commit stored new records, the crash leaves
-  -- the old and the new records.
+  -- Suppose that a crash can leave only the last commit, and this commit stored new records. Then
+  -- the crash leaves both the old and the new records.
   settled : ((trees : Trees) → IsTrue (state g new).is_open → (state g new).may_leave trees → trees ≡ (state g new).committed.trees)
       → (facts : List Fact) → HoldsFacts g zone old facts → AreLawful (reverse fs ++ facts) → OnOk r (LeavesFacts g zone new ((reverse fs ++ facts) ∷ []))
   unfolding LeavesFacts

@@ -1,5 +1,6 @@
--- Proofs about the rows of `intervals` (a meter's energy by quarter hour) for valid records. A
--- meter's rows have distinct starts, and none has more energy than the greatest total of a meter.
+-- Proofs about the rows of `intervals` (a meter's energy by quarter hour) for lawful records, of
+-- which the store's rules accepted each after the earlier ones. A meter's rows have distinct
+-- starts, and none has more energy than the greatest total of a meter.
 use Rattle.std.proofs.Common.{◌≡◌, ℕ, ◌+◌, ◌*◌, ◌^◌, ◌<◌, ◌≤◌, ◌==◌, ◌||◌, Bool, true, false, cond, inl, inr, List, [], ◌∷◌, map, filter, Option, Some, None, bytes_eq, refl, sym, ap, ap₂, subst, ◌∙◌, IsPermutation, arith}
 use Rattle.std.specs.Prelude.{sum_by}
 use Rattle.std.specs.List.{list_any, AllByRecursion, find, Contains}
@@ -43,7 +44,7 @@ within_sum n (row ∷ rows) h =
     let parts = sum_by-cons (λ (row : Share). row.mwh) row rows in
     (omega (arith, h, parts), within_sum n rows (omega (arith, h, parts)))
 
--- If a search finds an element in a list, the list contains the element.
+-- If a search for an element in a list finds an element, the list contains this element.
 pub found_recorded : {X : Type 0} (p : X → Bool) (xs : List X) (x : X) → find p xs ≡ Some x → Contains xs x
 found_recorded p [] x h = absurd (cc)
 found_recorded p (y ∷ ys) x h =

@@ -1,5 +1,5 @@
--- Proofs about the tables `entries`, `intervals` and `installations` after an entry of a meter was
--- recorded that is not the meter's first entry.
+-- Proofs that the SQL tables `entries`, `intervals` and `installations` encode the store's records
+-- after a meter entry other than the meter's first one was recorded.
 use Rattle.std.proofs.Common.{◌≡◌, ◌≢◌, ℕ, ◌+◌, Bool, true, false, cond, inl, inr, List, [], ◌∷◌, map, filter, Option, Some, None, bytes_eq, refl, sym, ap, subst, ◌∙◌, IsPermutation, arith}
 use Rattle.std.specs.List.{AllByRecursion}
 use Rattle.std.proofs.lemmas.Bool.{cases_Bool, cond-true, cond-false}
@@ -37,7 +37,7 @@ use Rattle.office_store.proofs.Placed.{placed_changed}
 use Rattle.office_store.proofs.Booked.{AreApart, booked, others_booked}
 use Rattle.office_store.proofs.Energy.{opening_apart, rows_small, found_recorded}
 
--- True if the record `f` changes at most the meter `meter`, and leaves every other meter unchanged.
+-- True if the record `f` leaves the data of every meter other than `meter` unchanged.
 abbrev pub SparesOthers : (f : Fact) → (facts : List Fact) → (meter : List ℕ) → Type 0
 SparesOthers f facts meter = (o : Opening) → same meter o.meter ≡ false → Stays f facts o
 
@@ -61,7 +61,7 @@ module _ (f : Fact) (facts : List Fact) (meter : List ℕ) (same_found : (m : Li
     own_name : o.meter ≡ meter
     own_name = named facts meter o there
 
-    -- After a meter entry is stored, the rows of `entries` encode the old entries and the new
+    -- After a meter entry is stored, the rows of `entries` encode the old meter entries and the new
     -- entry.
     pub entry_added : (row : journal.EntryRow) (new : Entered) (content after : Content) → rows_of (f ∷ facts) o ≡ row ∷ rows_of facts o
         → entered_rows o (row ∷ rows_of facts o) ≡ new ∷ entered_rows o (rows_of facts o) → new.meter ≡ meter

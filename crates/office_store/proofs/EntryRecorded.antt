@@ -1,4 +1,5 @@
--- Proof that the tables encode the records after a meter entry was recorded.
+-- Proof that the store's SQL tables encode all of the store's records after a meter entry was
+-- recorded.
 use Rattle.std.proofs.Common.{◌≡◌, ◌≢◌, ℕ, Bool, false, ◌+◌, ◌≤◌, List, [], ◌∷◌, map, filter, length, Option, Some, None, refl, sym, ap, subst, ◌∙◌, IsPermutation, arith}
 use Rattle.std.specs.List.{AllByRecursion}
 use Rattle.std.proofs.lemmas.Bool.{cond-false}
@@ -56,8 +57,8 @@ entries_count o (row ∷ rows) passes all last numbered are h =
     (few_entered o rows row.place numbered.1 (omega (arith, place))) h in
     omega (arith, following, place)
 
--- If the row of a meter entry, its energy and the meter's new state are written, the tables encode
--- the records with the entry.
+-- If the row of a meter entry, its energy and the meter's new state are written, the SQL tables
+-- encode the store's records with this entry.
 pub entry_recorded : EntriesMoveOn → OtherMetersStay → MetersAreKept → InstallationsAreInRange
     → (booked : BookedEntry) (zone : List ℕ) (facts : List Fact) (o : Opening) (change : Installed → Installed) (content one two after : Content)
     → AreOf zone facts content → AreLawful (fact.Entry booked ∷ facts) → opening_of facts booked.meter ≡ Some o

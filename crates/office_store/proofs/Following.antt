@@ -1,4 +1,5 @@
--- Proofs about the tables after several records were stored one after another.
+-- Proofs that if several records are stored one after another, the store's SQL tables encode all of
+-- them.
 use Rattle.std.proofs.Common.{◌≡◌, ℕ, List, [], ◌∷◌, ◌++◌, refl, sym, ap, subst, ◌∙◌}
 use Rattle.std.specs.Prelude.{reverse}
 use Rattle.std.proofs.lemmas.List.{reverse-append}

@@ -1,4 +1,5 @@
--- Proofs about calls in sequence inside a transaction, and about the complete transaction.
+-- Proofs that calls in sequence inside a transaction satisfy `Goes`, the contract of a single call,
+-- and that the complete transaction satisfies `Commits`.
 use Rattle.std.proofs.Common.{◌≡◌, true, false, [], inl, inr, ℕ, List, Ok, Err, Result, IsTrue, OnOk, OnErr, IfOk, IfErr, refl, sym, subst, ◌∙◌, arith}
 use Rattle.sqlite.specs.declared.error.Error.{Error}
 use Rattle.sqlite.specs.Order.{Row}
@@ -53,8 +54,8 @@ more_ok : {X E : Type 0} {P Q : Type 0} (r : Result X E) → (P → Q) → OnOk 
 more_ok (Ok x) f h = f h
 more_ok (Err e) f h = tt
 
--- If a call returns `Ok` and another call follows, both together satisfy `Goes`, the contract of
--- one call inside a transaction.
+-- If a call returns `Ok` and another call follows, both together satisfy `Goes`, the contract of a
+-- single call inside a transaction.
 pub goes_then : {X Y D E : Type 0} (a b c : State) (x : X) (r : Result Y E) (P Q R : Content → Content → Type 0) → Goes {X = X} {E = D} a b (Ok x) P → Goes b c r Q
     → ((before mid after : Content) → P before mid → Q mid after → R before after) → Goes a c r R
 goes_then a b c x r P Q R one two goes = record {
@@ -83,8 +84,8 @@ then_failed a b c x e f P Q R one two = record {
   survives = survives_then a b c (λ _. ⊥) (λ _. ⊥) (λ _. ⊥) (λ _ db none. none) (λ _ db none. none) one.survives two.survives;
 }
 
--- If a failed call satisfies `Goes`, the contract of a call inside a transaction, it does so with
--- any postcondition. The postcondition concerns only calls that return `Ok`.
+-- If a call fails and satisfies `Goes`, the contract of a call inside a transaction, the call
+-- satisfies `Goes` with any postcondition. A postcondition concerns only calls that return `Ok`.
 pub failed : {X Y D E : Type 0} (a b : State) (e : D) (d : E) (P Q : Content → Content → Type 0) → Goes {X = X} a b (Err e) P → Goes {X = Y} a b (Err d) Q
 failed a b e d P Q one = record { kept = one.kept; makes = λ clean inside content has. tt; survives = one.survives }
 
@@ -101,7 +102,8 @@ reported_less a b x y P Q reports one = record {
   survives = one.survives;
 }
 
--- If a transaction makes no call, a crash can leave only the states that it could leave before.
+-- If a transaction makes no call, a crash after the transaction can leave only the states that a
+-- crash before it could leave.
 still_there : (a : State) → Survives a a (λ _. ⊥)
 still_there a = record { clean = omega arith; shield = λ is. is; counts = omega arith; limit = refl; closes = λ clean is. inl is; crash = λ clean db left. inl left }
 

@@ -1,4 +1,5 @@
--- Proofs about the tables after a rejected reading was recorded.
+-- Proofs that the store's SQL tables encode all of the store's records after a rejected reading was
+-- recorded.
 use Rattle.std.proofs.Common.{◌≡◌, ℕ, ◌+◌, List, [], ◌∷◌, map, length, Option, Some, None, refl, sym, ap, subst, ◌∙◌, IsPermutation, arith}
 use Rattle.office_events.specs.declared.facts.Opening.{Opening}
 use Rattle.office_events.specs.declared.facts.HeldReading.{HeldReading}
@@ -24,8 +25,8 @@ use Rattle.office_store.specs.Recording.{Records, IsAfter}
 use Rattle.office_store.proofs.Placed.{last_counts}
 use Rattle.office_store.proofs.Recorded.{stay, points_stay, entries_stay, intervals_stay}
 
--- Lemmas that, if a record (such as a rejected reading) changes no meter, the rows that encode the
--- meters stay unchanged.
+-- Lemmas: if a record (such as a rejected reading) changes no meter, the rows that encode meters
+-- also encode the meters after this record.
 module _ (f : Fact) (facts : List Fact) (stays : (o : Opening) → Stays f facts o) where
   entries_same : (found : Option Opening) → entries_at (f ∷ facts) found ≡ entries_at facts found
   entries_same None = refl

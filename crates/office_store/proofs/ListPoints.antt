@@ -7,8 +7,8 @@ use Rattle.store_tables.specs.declared.devices.rows.Point.{Point}
 use Rattle.store_tables.specs.Devices.Rows.{Listed, listed_at}
 use Rattle.office_store.specs.Rows.{placed_on, listed}
 
--- If an element is appended to a list, the list's numbered rows get one row with the next index,
--- and the other rows stay unchanged.
+-- If an element is appended to a list, the list's numbered rows get one more row with the next
+-- index, and their earlier rows stay unchanged.
 pub placed_last : {X Y : Type 0} (row : ℕ → X → Y) (before : ℕ) (xs : List X) (x : X) → placed_on row before (xs ++ x ∷ []) ≡ placed_on row before xs ++ row (before + length xs + 1) x ∷ []
 placed_last row before [] x = ap (λ n. row n x ∷ []) (omega arith)
 placed_last row before (y ∷ xs) x =

@@ -1,4 +1,4 @@
--- Proofs that the store returns the answers of queries on its tables.
+-- Proofs that the store returns the answers of the queries on its tables unchanged.
 use Rattle.std.proofs.Common.{◌≡◌, ℕ, List, [], refl, sym, subst, Result, Ok, Err}
 use Rattle.std.specs.Prelude.{IfOk, OnOk}
 use Rattle.sqlite.specs.Store.{Ghosts}
@@ -41,7 +41,7 @@ keeps g old new n m zone looks = record {
   };
 }
 
--- If a query runs on the store, nothing in the store changes except the store's count of failures.
+-- If a query runs on the store, only the store's count of failures can change.
 pub reads : {S T : Type 0} (g : Ghosts S) (old new : Held S) (n m : Failures) (zone : Zone) (answer : Result T BooksFault)
     → m ≡ faults_after answer n → ((text : List ℕ) → OnlyLooks g text old new)
     → OnlyReads (ledger_of g old n zone) (ledger_of g new m zone) answer
@@ -62,13 +62,15 @@ reports {T = T} g old new n m zone Says found answer is says content h clean =
     let P : Result T BooksFault → Type 0 = λ a. IfOk a (Says content) in
     subst P (sym is) (reported (Says content) found (says h.zone content h.holds clean))
 
--- If a query on the store's tables returns an answer, the store returns the same answer.
+-- If a query on the store's tables returns an answer, the store's function that makes the query
+-- returns the same answer.
 pub finds : {S T : Type 0} {Says : List Fact → T → Type 0} {AreSound : List Fact → Type 0} (g : Ghosts S) (old new : Held S) (n m : Failures) (zone : Zone)
     (found : Result T RowFault) (answer : Result T BooksFault) → answer ≡ answer_of found
     → finding.Finds g old new found Says AreSound → Finds (ledger_of g old n zone) (ledger_of g new m zone) answer Says
 finds {Says = Says} g old new n m zone found answer is it = reports g old new n m zone Says found answer is it.answer
 
--- If every answer of a query has a property, the answer that the store returns has the property.
+-- If every answer of a query on the tables has a property, the answer that the store returns has
+-- this property.
 pub sound : {T : Type 0} (Says : T → Type 0) (found : Result T RowFault) (answer : Result T BooksFault) → answer ≡ answer_of found
     → IfOk found Says → IfOk answer Says
 sound {T} Says found answer is says =
@@ -79,8 +81,8 @@ reported_on : (Q : Type 0) (found : Result (Unit {0}) RowFault) → OnOk found Q
 reported_on Q (Ok x) q = q
 reported_on Q (Err e) q = tt
 
--- If a query on the store's tables passes its rows to the caller's visitor, the store's function
--- passes the same rows.
+-- If a query on the store's tables passes its rows to the visitor that the caller supplies, the
+-- store's function passes the same rows to this visitor.
 pub hands_on : {S K T : Type 0} {IsRow : T → Type 0} {AreSound : List Fact → Type 0} (g : Ghosts S) (old new : Held S) (n m : Failures) (zone : Zone) (takes : K → T → K → Type 0) (before after : K)
     (rows : List Fact → List T) (found : Result (Unit {0}) RowFault) (answer : Result (Unit {0}) BooksFault) → answer ≡ answer_of found
     → metering.HandsOn g old new takes before after found IsRow rows AreSound

@@ -1,4 +1,4 @@
--- Proofs about the tables after a meter was installed.
+-- Proofs that the store's SQL tables encode all of the store's records after a meter was installed.
 use Rattle.std.proofs.Common.{◌≡◌, ◌≢◌, ℕ, ◌+◌, true, false, inl, inr, List, [], ◌∷◌, map, filter, length, Option, Some, None, bytes_eq, refl, sym, ap, subst, ◌∙◌, IsPermutation, arith}
 use Rattle.std.proofs.lemmas.Bool.{cases_Bool, cond-true, cond-false}
 use Rattle.std.proofs.lemmas.List.Sorted.{IsPermutation-cons}
@@ -70,8 +70,8 @@ module _ (facts : List Fact) (o : Opening) (begins : Begins facts o) (new : open
       still None = refl
       still (Some x) = refl
 
--- If a new meter's rows are inserted into `installations`, `ranges` and `entries`, the tables
--- encode the records with the new meter.
+-- If a new meter's rows are inserted into `installations`, `ranges` and `entries`, the SQL tables
+-- encode the store's records with the new meter.
 pub opening_recorded : OpeningsBegin → (o : Opening) (place : ℕ) (zone : List ℕ) (facts : List Fact) (content one two after : Content)
     → AreOf zone facts content → AreLawful (fact.Opening o ∷ facts)
     → IsAfter meter_tree.installations installed_columns every installed_place place content

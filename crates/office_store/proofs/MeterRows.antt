@@ -1,5 +1,5 @@
--- Proofs about the rows that the query for the meters of an accounting register (a named energy
--- counter) returns.
+-- The SQL text of the query for the meters of an accounting register (a named energy counter), and
+-- proofs about the rows that the query returns.
 use Rattle.std.proofs.Common.{◌≡◌, ℕ, bytes_eq, List, [], ◌∷◌, codes, false, refl}
 use Rattle.sqlite.specs.declared.types.Value.TheVariants.{Text}
 use Rattle.sqlite.specs.Order.{Row}

@@ -1,4 +1,5 @@
--- Proofs about the records of a store that was created or opened.
+-- Proofs that a store has no records after it was created, and the records of its database file
+-- after it was opened.
 use Rattle.std.proofs.Common.{◌≡◌, inl, inr, ℕ, Bool, true, false, List, [], refl, Result, Ok, Err, IsTrue}
 use Rattle.sqlite.specs.Store.{Ghosts}
 use Rattle.sqlite.specs.Tree.{Trees}
@@ -19,8 +20,10 @@ use Rattle.office_store.specs.Database.{HasFile, HoldsAlone, KeepsFile}
 abbrev pub Settles : {S : Type 0} → Ghosts S → Held S → Type 0
 Settles g h = (trees : Trees) → IsTrue (state g h).is_open → (state g h).may_leave trees → trees ≡ (state g h).committed.trees
 
--- If the committed tables of an open connection encode the records, and a crash leaves the last
--- commit, then the database has these records before and after a crash.
+-- If the committed tables of an open database connection encode some records, and a crash leaves
+-- the last commit, then the contract `HoldsAlone` is satisfied. By the contract, if reads of the
+-- file return the written bytes, the committed tables encode these records, and a crash leaves
+-- tables that encode them.
 alone : {S : Type 0} (g : Ghosts S) (zone : List ℕ) (h : Held S) (facts : List Fact) → Settles g h
     → (HasCleanDisk (state g h) → IsTrue (state g h).is_open × HasFacts zone facts (state g h).committed) → HoldsAlone g zone h facts
 unfolding HoldsFacts LeavesFacts
@@ -31,7 +34,7 @@ alone g zone h facts settles shows = record {
       record { facts = facts; one = inl refl; db = (state g h).committed; has = it.1; same = settles trees it.0 may };
 }
 
--- A store that was just created has no records.
+-- A store that was just created has no records, and after a crash it still has none.
 
 pub holds_none : {S X E : Type 0} → NewFilesHaveNone → (g : Ghosts S) (zone : List ℕ) (old new : Held S) (x : X) → Settles g new → old.schema ≡ no_schema
     → TransactsTo {E = E} (state g old) (state g new) (Ok x) (Makes zone) → HoldsAlone g zone new []
@@ -41,11 +44,12 @@ holds_none none g zone old new x settles blank does =
     let is = it.2 blank in
     (it.1, record { content = is.0; tables = is.2; are = none zone is.0 is.1 }))
 
--- Lemmas on the records of a store that was opened from a database file.
+-- Lemmas that a store that was opened from a database file has the records of this file.
 
 module _ {S X E : Type 0} (theirs : OpenedFilesKeepTheirs) (g : Ghosts S) (zone : List ℕ) (old new : Held S)
     (first : HasCleanDisk (state g new) → HasCleanDisk (state g old)) where
-  -- The contract of opening a store, for a database file of any version.
+  -- The contract of opening a store from a database file of any version. For the layout and the
+  -- content of the committed tables of the file, the result satisfies `OpensFile`.
   abbrev pub Opens : Result X E → Type 0
   Opens result = HasCleanDisk (state g new) → (layout : Layout) (content : Content)
       → (IsTrue (state g old).is_open → IsFile layout zone (state g old).committed content) → OpensFile layout zone content (state g old) (state g new) result
@@ -78,7 +82,8 @@ module _ {S X E : Type 0} (theirs : OpenedFilesKeepTheirs) (g : Ghosts S) (zone 
         ];
   }
 
--- If opening a connection as a store succeeds, the connection had no open transaction before.
+-- If opening a database connection as a store succeeds, the connection had no open transaction
+-- before.
 pub was_idle : {X E C : Type 0} (b : Bool) (x : X) (e : E) → (IsTrue b → (Ok x ≡ Err e) × C) → b ≡ false
 was_idle true x e busy =
     let no : Ok x ≡ Err e = (busy refl).0 in

@@ -1,4 +1,5 @@
--- Proofs about the rows that pass a test, before and after all rows are edited.
+-- Proofs on filtering a list by a test: equal tests select the same rows, and edits that don't
+-- change a test's result may come before or after filtering.
 use Rattle.std.proofs.Common.{◌≡◌, ℕ, Bool, true, false, cond, inl, inr, ◌||◌, List, [], ◌∷◌, ◌++◌, map, filter, refl, sym, ap, ap₂, ◌∙◌, IsPermutation}
 use Rattle.std.specs.List.{list_any, AllByRecursion}
 use Rattle.std.proofs.lemmas.Bool.{cases_Bool, cond-true, cond-false}
@@ -14,8 +15,8 @@ map_agree f g same xs = λ i. map (λ x. same x i) xs
 pub any_agree : {X : Type 0} (p q : X → Bool) → ((x : X) → p x ≡ q x) → (xs : List X) → list_any p xs ≡ list_any q xs
 any_agree p q same xs = λ i. list_any (λ x. same x i) xs
 
--- If an edit changes no row's test result, editing all rows and then filtering equals filtering and
--- then editing.
+-- If editing a row never changes whether the row passes a test, editing all rows and then filtering
+-- equals filtering and then editing.
 pub filter_edited : {X : Type 0} (p : X → Bool) (f : X → X) → ((x : X) → p (f x) ≡ p x) → (xs : List X) → filter p (map f xs) ≡ map f (filter p xs)
 filter_edited p f keeps xs = filter-map p f xs ∙ ap (map f) (filter_agree (λ x. p (f x)) p keeps xs)
 
@@ -24,7 +25,8 @@ fixed_step : {X : Type 0} (b : Bool) (p : X → Bool) (f : X → X) (x : X) (xs 
 fixed_step true p f x xs e same more = cond-true _ _ _ e ∙ ap₂ ◌∷◌ (same refl) more
 fixed_step false p f x xs e same more = cond-false _ _ _ e ∙ more
 
--- If an edit changes no row that passes a test, the list of passing rows stays unchanged.
+-- If editing a row never changes whether it passes a test, and leaves passing rows unchanged, the
+-- rows that pass the test are the same after all rows were edited.
 pub filter_spared : {X : Type 0} (p : X → Bool) (f : X → X) → ((x : X) → p (f x) ≡ p x) → ((x : X) → p x ≡ true → f x ≡ x) → (xs : List X) → filter p (map f xs) ≡ filter p xs
 filter_spared p f keeps same [] = refl
 filter_spared p f keeps same (x ∷ xs) = fixed_step (p x) p f x xs (keeps x) (same x) (filter_spared p f keeps same xs)
@@ -38,8 +40,8 @@ any_step false p q x xs e implies more =
       | inr is ↦ more ∙ sym (ap (λ b. b || list_any q xs) is)
     ]
 
--- If a test implies a weaker test, filtering a list by the weaker test does not change whether some
--- row passes the first test.
+-- If every row that passes one test also passes a weaker test, filtering a list by the weaker test
+-- does not change whether any row passes the first test.
 pub any_filter : {X : Type 0} (p q : X → Bool) → ((x : X) → q x ≡ true → p x ≡ true) → (xs : List X) → list_any q (filter p xs) ≡ list_any q xs
 any_filter p q implies [] = refl
 any_filter p q implies (x ∷ xs) = any_step (p x) p q x xs refl (implies x) (any_filter p q implies xs)

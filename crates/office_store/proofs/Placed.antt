@@ -1,4 +1,4 @@
--- Proofs about lists whose rows are numbered by index, starting from 1.
+-- Proofs about lists whose rows are numbered from 1: the greatest index is the length of the list.
 use Rattle.std.proofs.Common.{◌≡◌, ℕ, ◌+◌, ◌≤◌, zero, suc, List, [], ◌∷◌, map, length, Bool, true, false, cond, Option, Some, None, refl, sym, ap, ap₂, subst, ◌∙◌, arith, filter, IsPermutation}
 use Rattle.std.specs.List.{AllByRecursion}
 use Rattle.std.proofs.lemmas.List.Sorted.{IsPermutation-sym, IsPermutation-trans, length_permutation, All-permutation}
@@ -12,8 +12,8 @@ use Rattle.office_store.specs.Recording.{next_place}
 pub all_every : {X : Type 0} (xs : List X) → filter every xs ≡ xs
 all_every xs = filter_all every xs (all_of (λ x. every x ≡ true) (λ x. refl) xs)
 
--- If the row `first` has the greatest key of all passing rows, the next index is one more than this
--- key.
+-- If the row `first` has the greatest key of all rows that pass a test, the index of the next row
+-- is one more than this key.
 pub greatest : {Y : Type 0} (key : Y → ℕ) (passes : Y → Bool) (rows : List Y) (first : Y) (others : List Y) (last : Option ℕ)
     → IsPermutation (filter passes rows) (first ∷ others) → AllByRecursion (λ y. key y ≤ key first) others
     → IsLast passes (λ y n. n ≡ key y) key rows last → next_place last ≡ key first + 1
@@ -38,7 +38,7 @@ module _ {X Y : Type 0} (row : ℕ → X → Y) (key : Y → ℕ) (keyed : (plac
   few n [] h = tt
   few n (x ∷ xs) h = (rw (keyed (length xs + 1) x) (omega arith), few n xs (omega arith))
 
-  -- The greatest index of a numbered list is its length.
+  -- The greatest index in a list whose rows are numbered from 1 is the length of the list.
   pub last_counts : (xs : List X) (last : Option ℕ) → IsLast every (λ y n. n ≡ key y) key (placed row xs) last → next_place last ≡ length xs + 1
   last_counts [] None h = refl
   last_counts [] (Some n) h = let long = length_permutation _ _ h.3 in absurd (omega (arith, long))

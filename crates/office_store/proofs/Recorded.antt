@@ -1,5 +1,5 @@
--- Proofs about the tables after a record that changes no meter: a device, an energy counter
--- (accounting register), a poll, an outcome or a stored request.
+-- Proofs that the store's SQL tables encode its records after a record that changes no meter. This
+-- is a device, an energy counter (accounting register), a poll, an outcome or a stored request.
 use Rattle.std.proofs.Common.{◌≡◌, ◌≢◌, ℕ, ◌+◌, List, [], ◌∷◌, map, filter, length, Option, Some, None, refl, sym, ap, subst, ◌∙◌, IsPermutation, arith}
 use Rattle.sqlite.specs.Order.{Row}
 use Rattle.office_events.specs.declared.facts.Device.{Device}

@@ -1,4 +1,5 @@
--- Proofs that the tables agree with the records about the current state of each meter.
+-- Proofs that a query of `installations` finds the meter's current state (last entry and total
+-- energy) that the store's records have.
 use Rattle.std.proofs.Common.{◌≡◌, ℕ, ◌+◌, Bool, true, false, cond, List, [], ◌∷◌, map, filter, length, Option, Some, None, refl, sym, ap, subst, ◌∙◌, IsPermutation, arith}
 use Rattle.std.specs.List.{AllByRecursion}
 use Rattle.std.proofs.lemmas.Option.{same_Some}
@@ -68,7 +69,7 @@ module _ (facts : List Fact) (lawful : AreLawful facts) (meter : List ℕ) (o : 
       (all_weaker _ _ ranged_one (openings_in facts) each_by_name)
 
   -- If a query finds a meter's row in `installations`, the row has the meter's last entry and total
-  -- energy according to the records.
+  -- energy according to the store's records.
   pub stands_found : {A : Type 0} (IsSeen : Installed → A → Type 0) (a : A) → IsFound (is_meter meter) IsSeen (placed (installed_row facts) (openings_in facts)) (Some a)
       → (i : Installed) × IsSeen i a × (i.row.last ≡ last_row (installation_of facts o))
   stands_found IsSeen a found = found_has (is_meter meter) IsSeen (λ (i : Installed). i.row.last ≡ last_row (installation_of facts o)) (placed (installed_row facts) (openings_in facts)) a installed_all found

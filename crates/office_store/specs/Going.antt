@@ -23,8 +23,8 @@ pub record Goes {X E : Type 0} (old new : State) (result : Result X E)
       → OnOk result (IsTrue new.in_transaction × HasMade Makes content new.now)
   pub survives : Survives old new (λ _. ⊥)
 
--- True if B-trees store a database that a transaction may leave: its content results from the old
--- content of the tables by the effect `Makes`.
+-- True if the B-trees `trees` store a database that a transaction may leave: its content results
+-- from the old content of the tables by the effect `Makes`.
 pub record AreMade (old : State) (Makes : Content → Content → Type 0) (trees : Trees) : Type 0 where
   pub db : Database
   pub made : (content : Content) → AreTables old.now content → HasMade Makes content db
@@ -41,7 +41,8 @@ pub record Commits {X E : Type 0} (old new : State) (result : Result X E)
       → OnErr result (KeepsCommit old new)
   pub survives : Survives old new (AreMade old Makes)
 
--- True if a query changed nothing, and its answer follows from the rows of one table.
+-- True if a query changed nothing, and its answer fits the rows of one table: `Answers`, the
+-- relation that this definition gets as an argument, holds between the rows and the answer.
 pub record Reported {A X : Type 0} (tree : ℕ) (columns : X → Row) (Answers : List X → A → Type 0)
     (answer : A) (content after : Content) : Type 0 where
   pub same : after ≡ content

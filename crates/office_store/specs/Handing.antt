@@ -27,7 +27,8 @@ TookSome {K} {T} IsRow takes before after =
 abbrev pub most_rows : ℕ
 most_rows = 18446744073709551615
 
--- True if the caller's sink received 2^64 - 1 rows, the greatest number that a stream can count.
+-- True if the caller's sink (a consumer of rows) received 2^64 - 1 rows, the greatest number that a
+-- stream can count.
 abbrev pub TookMost : {K T : Type 0} → (takes : K → T → K → Type 0) → (before after : K) → Type 0
 TookMost {K} {T} takes before after =
     (rows : List T) × (length rows ≡ most_rows) × TakesAll takes before rows after
@@ -39,9 +40,9 @@ abbrev pub IsStreamFault : {K T : Type 0} → (old new : State) → (takes : K �
 IsStreamFault old new takes before after IsSound e =
     IsFault old new IsSound e ⊎ ((e ≡ Sql InvalidQuery) × TookMost takes before after)
 
--- The contract of streaming rows to a caller's sink. The sink receives the rows in order: all rows
--- if the stream returns `Ok`, and the first rows if it returns a fault. Every received row has the
--- property `IsRow`, even if the tables are damaged.
+-- The contract of streaming rows to a caller's sink. The sink receives the rows in the order of the
+-- query's result: all rows if the stream returns `Ok`, and the first rows if it returns a fault.
+-- Every received row has the property `IsRow`, even if the tables are damaged.
 pub record HandsOn {S K T Tables : Type 0} (g : Ghosts S) (old new : Held S)
     (takes : K → T → K → Type 0) (before after : K)
     (result : Result (Unit {0}) RowFault) (IsRow : T → Type 0) (Have : Tables → Content → Type 0)
@@ -69,15 +70,15 @@ pub record HandsOn {S K T Tables : Type 0} (g : Ghosts S) (old new : Held S)
 abbrev pub AreRead : {T : Type 0} → (reads : Row → Result T RowFault) → List Row → List T → Type 0
 AreRead reads = AllZip (λ row read. reads row ≡ Ok read)
 
--- True if a query was started and changed nothing, and the given rows are the first rows of its
--- answer.
+-- True if a query was started and changed nothing, and the given rows are the first rows of the
+-- query's answer.
 abbrev pub IsAsked : {S : Type 0} → Ghosts S → (sql : List ℕ) → (params : Row)
     → (old asked : Held S) → (given : List Row) → Type 0
 IsAsked g sql params old asked given =
     IsUnchanged (state g old) (state g asked) × Begins sql params (state g asked) given
 
--- True if a query failed while its rows were read, and the earlier database calls of the stream
--- left the tables unchanged.
+-- True if a query failed while its rows were read one by one, and the database calls before the
+-- failed call left the tables unchanged.
 pub record HasStopped {S : Type 0} (g : Ghosts S) (sql : List ℕ) (params : Row) (old new : Held S)
     (e : Error) : Type 0 where
   pub asked : Held S
@@ -86,8 +87,8 @@ pub record HasStopped {S : Type 0} (g : Ghosts S) (sql : List ℕ) (params : Row
   pub counts : (state g asked).faults ≤ (state g new).faults
   pub fails : FailsToQuery sql params (state g asked) (state g new) e
 
--- The reasons why reading the rows of a query ended: a call failed, a row can't be read, or 2^64 -
--- 1 rows (the greatest countable number) were read.
+-- The reasons why reading the rows of a query ended: a call failed, a row can't be parsed, or 2^64
+-- - 1 rows (the greatest countable number) were read.
 abbrev pub IsReadFault : {S T : Type 0} → Ghosts S → (sql : List ℕ) → (params : Row)
     → (reads : Row → Result T RowFault) → (old new : Held S) → (given : List Row) → (read : List T)
     → RowFault → Type 0
@@ -98,8 +99,8 @@ IsReadFault {S} g sql params reads old new given read Damaged =
     × (reads row ≡ Err Damaged)
 
 -- The contract of streaming a query's rows to a caller's sink. The stream reads the rows and passes
--- them to the sink in order. If the stream returns `Ok`, the sink gets all rows, and on a fault the
--- first rows.
+-- them to the sink in the order of the query's result. If the stream returns `Ok`, the sink gets
+-- all rows, and on a fault the first rows.
 pub record HandsOnQuery {S K T : Type 0} (g : Ghosts S) (sql : List ℕ) (params : Row)
     (reads : Row → Result T RowFault) (old new : Held S)
     (takes : K → T → K → Type 0) (before after : K) (result : Result (Unit {0}) RowFault) : Type 0
@@ -115,8 +116,8 @@ pub record HandsOnQuery {S K T : Type 0} (g : Ghosts S) (sql : List ℕ) (params
     pub fault : IfErr result (IsReadFault g sql params reads old new given rows)
 
 -- States that the stream of a query's rows satisfies the contract `HandsOnQuery` if two conditions
--- hold. The answer depends only on the tables, and reads of the database file return the written
--- bytes.
+-- hold. The query's answer depends only on the tables, and reads of the database file return the
+-- written bytes.
 abbrev pub HandsOnPlain : {S K T : Type 0} → Ghosts S → (sql : List ℕ) → (params : Row)
     → (reads : Row → Result T RowFault) → (old new : Held S)
     → (takes : K → T → K → Type 0) → (before after : K)

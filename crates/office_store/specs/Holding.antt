@@ -18,7 +18,7 @@ pub record HasFacts (zone : List ℕ) (facts : List Fact) (db : Database) : Type
   pub tables : AreTables db content
   pub are : AreOf zone facts content
 
--- True if the list of records is one of the given lists.
+-- True if a list of records is one of the lists of records in a given list.
 abbrev pub IsOneOf : List (List Fact) → List Fact → Type 0
 IsOneOf [] facts = ⊥
 IsOneOf (one ∷ left) facts = (facts ≡ one) ⊎ IsOneOf left facts
@@ -34,7 +34,7 @@ pub record IsLeft (zone : List ℕ) (left : List (List Fact)) (trees : Trees) : 
 
 module _ {S : Type 0} (g : Ghosts S) (zone : List ℕ) where
   -- States that, if the connection is open and reads of its file return the written bytes, the
-  -- committed tables encode a list of records.
+  -- committed tables encode the given list of records.
   unfoldable pub HoldsFacts : Held S → List Fact → Type 0
   HoldsFacts h facts =
       HasCleanDisk (state g h) → IsTrue (state g h).is_open
@@ -46,8 +46,8 @@ module _ {S : Type 0} (g : Ghosts S) (zone : List ℕ) where
   LeavesFacts h left = HasCleanDisk (state g h) → (trees : Trees) → (state g h).may_leave trees
       → IsLeft zone left trees
 
-  -- The contract of a query outside a transaction. The query commits nothing, and a crash after it
-  -- leaves only what a crash before it could leave.
+  -- The contract of a query outside a transaction. The query commits nothing, and a crash after the
+  -- query leaves only what a crash before it could leave.
   pub record OnlyLooks (old new : Held S) : Type 0 where
     pub clean : HasCleanDisk (state g new) → HasCleanDisk (state g old)
     pub mode : old.in_transaction ≡ false → new.in_transaction ≡ false
@@ -59,9 +59,9 @@ module _ {S : Type 0} (g : Ghosts S) (zone : List ℕ) where
         → StateAfterCall (state g old) (state g new)
 
   -- The contract of a transaction that appends the records `fs` to the stored records, if the rules
-  -- accept `fs`. On `Ok` all of `fs` are stored, and a later crash leaves them. On a fault the
-  -- earlier records are unchanged, but a crash may leave all of `fs`. An empty `fs` changes
-  -- nothing.
+  -- for records accept `fs` (for example, device names are unique). On `Ok` all of `fs` are stored,
+  -- and a later crash leaves them. On a fault the earlier records are unchanged, but a crash may
+  -- leave all of `fs`. An empty `fs` changes nothing.
   pub record BooksFacts {X E : Type 0} (fs : List Fact) (old new : Held S) (result : Result X E) :
       Type 0 where
     pub clean : HasCleanDisk (state g new) → HasCleanDisk (state g old)

@@ -66,14 +66,16 @@ reading_of meter h = record {
   cause = h.row.cause;
 }
 
--- True if every value of a rejected reading is in its range.
+-- True if every value of a rejected reading is in the range that its column in the table `holds`
+-- allows.
 pub record IsSoundReading (reading : HeldReading) : Type 0 where
   pub poll : IsPlace reading.poll
   pub at : reading.at ≤ latest_moment
   pub raw : reading.raw ≤ greatest_raw
   pub sf : IsTrue (has_sixteen_bits reading.sf)
 
--- True if every value of the rejected reading in a row of `holds` is in its range.
+-- True if every value of the rejected reading in a row of `holds` is in the range that its column
+-- allows.
 abbrev pub HasSoundReading : Held → Type 0
 HasSoundReading h = IsSoundReading (reading_of h.meter h)
 
@@ -89,7 +91,7 @@ reading_in meter row =
     and_then (or_damaged (cause_of number)) (λ cause.
     Ok (record { meter = meter; poll = poll; at = at; raw = raw; sf = sf; cause = cause })))))))
 
--- True if a list has exactly the rows of the table `holds`.
+-- True if a list has exactly the rows of `holds`, the table of rejected readings.
 abbrev pub HaveHolds : List Held → Content → Type 0
 HaveHolds = HasRows holds hold_columns
 
@@ -103,7 +105,8 @@ AreReadingsOf meter rows all =
     (found : List Held) × AreFound (is_of meter) (FirstFirst hold_place) rows found
     × (all ≡ map (reading_of meter) found)
 
--- True if every value of every row of `holds` is in its range.
+-- True if every value of every row of `holds` (the table of rejected readings) is in the range that
+-- its column allows.
 abbrev pub AreSoundHolds : List Held → Type 0
 AreSoundHolds = AllByRecursion HasSoundReading
 

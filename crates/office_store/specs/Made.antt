@@ -15,8 +15,9 @@ abbrev pub reported_by : {S : Type 0} {g : Ghosts S} → Result (SqlBooks S g) (
 reported_by (Ok books) = Ok books.zone
 reported_by (Err unopened) = Err unopened.fault
 
--- The database connection after a store was created or opened. If this succeeded, it is the store's
--- connection. Otherwise, it is the connection that the result returns together with the fault.
+-- The database connection after the call that created or opened a store. If the call succeeded,
+-- this is the store's connection. If it failed, this is the connection that the result returns
+-- together with the fault.
 abbrev pub connection_in : {S : Type 0} {g : Ghosts S} → Result (SqlBooks S g) (Unopened S) → Held S
 connection_in (Ok books) = books.connection
 connection_in (Err unopened) = unopened.connection

@@ -8,14 +8,15 @@ use Rattle.store_tables.specs.Answer.{IsLast}
 use Rattle.store_tables.specs.Content.{Content, HasRows}
 use Rattle.office_store.specs.Tables.{AreOf}
 
--- The effect of storing one record. If the old tables encode records after which the rules accept
--- the new record, the new tables encode the old records and the new record.
+-- The effect of storing one record. Suppose that the old tables encode records after which the
+-- rules for records accept the new record. Then the new tables encode the old records and the new
+-- record.
 abbrev pub Records : Fact → Content → Content → Type 0
 Records f content after = (zone : List ℕ) (facts : List Fact) → AreOf zone facts content
     → AreLawful (f ∷ facts) → AreOf zone (f ∷ facts) after
 
--- The effect of storing several records. If the old tables encode records after which the rules
--- accept the new records, the new tables encode the old and the new records.
+-- The effect of storing several records. Suppose that the old tables encode records after which the
+-- rules for records accept the new records. Then the new tables encode the old and the new records.
 abbrev pub RecordsAll : List Fact → Content → Content → Type 0
 RecordsAll fs content after =
     (zone : List ℕ) (facts : List Fact) → AreOf zone facts content → AreLawful (reverse fs ++ facts)
@@ -34,7 +35,9 @@ IsAfter {X} tree columns passes key place content =
     (rows : List X) → HasRows tree columns rows content
     → (last : Option ℕ) × (place ≡ next_place last) × IsLast passes (λ x n. n ≡ key x) key rows last
 
--- True if a query found `place`, the index for the next row to insert, and changed nothing.
+-- True if a query found `place`, the index for the next row to insert into a table, and changed
+-- nothing. `place` is one more than the last index of the rows that pass `passes`. It is 1 if no
+-- row does.
 pub record IsNext {X : Type 0} (tree : ℕ) (columns : X → Row) (passes : X → Bool) (key : X → ℕ)
     (place : ℕ) (content after : Content) : Type 0 where
   pub same : after ≡ content

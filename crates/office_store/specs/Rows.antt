@@ -1,4 +1,5 @@
--- Definitions of the table rows that encode each kind of record.
+-- Definitions of the table rows that encode each kind of record of the store, such as devices,
+-- meter entries and polls.
 use Rattle.std.specs.Prelude.{◌≡◌, ℕ, ℤ, ◌+◌, ◌≤◌, IsTrue, true, false, List, [], ◌∷◌, length, map, Vec, Option, Some, None}
 use Rattle.std.specs.List.{find}
 use Rattle.mb_wire.specs.declared.span.ReadFunction.{ReadFunction}
@@ -127,8 +128,8 @@ registered place register = record {
   };
 }
 
--- States that the row of an accounting register (a named energy counter) is in the table's ranges
--- if two conditions hold. Its index, address and scale are valid, and one Modbus read covers the
+-- States when the row of an accounting register (a named energy counter) is in the ranges of the
+-- table `registers`. Its index, address and scale must be valid, and one Modbus read must cover the
 -- counter and its scale.
 abbrev pub GivesSoundRow : (place : ℕ) → Register → RegisterRow → Type 0
 GivesSoundRow place register row =
@@ -139,7 +140,7 @@ GivesSoundRow place register row =
 abbrev pub begun : Opening → Installation
 begun opening = record { opening = opening; last = opened opening; total = 0; ended = false }
 
--- The columns for a meter's last entry and total energy.
+-- The columns of `installations` for a meter's last entry and total energy.
 abbrev pub last_row : Installation → LastRow
 last_row row =
     record { moment = row.last.at; raw = row.last.raw; sf = row.last.sf; total = row.total }
@@ -157,7 +158,7 @@ installed_as place row = record {
   };
 }
 
--- The row of `installations` for a meter, found by its opening (the record of its installation).
+-- The row of `installations` for a meter, given its opening (the record that installs the meter).
 -- The row has the meter's state after all records.
 abbrev pub installed_row : List Fact → (place : ℕ) → Opening → Installed
 installed_row facts place opening = installed_as place (installation_of facts opening)
@@ -186,7 +187,7 @@ kind_as from.Reset = kind.Reset
 kind_as from.Rescale = kind.Rescale
 
 -- The counter's value at a meter entry. For a reset or a rescale (a change of the scale factor),
--- the value before the counter was set.
+-- this is the value before the counter was set.
 abbrev pub raw_of : Entry → ℕ
 raw_of (entry.Step at raw rolls) = raw
 raw_of (entry.Change at before after sf) = before
@@ -203,7 +204,7 @@ abbrev pub after_of : Entry → ℕ
 after_of (entry.Step at raw rolls) = 0
 after_of (entry.Change at before after sf) = after
 
--- The row that encodes a meter entry, with the scale factor after the entry.
+-- The row of `entries` that encodes a meter entry, with the scale factor after the entry.
 abbrev pub entry_row : (sf : ℤ) → journal.EntryRow → EntryRow
 entry_row sf row = record {
   place = row.place;
@@ -229,8 +230,8 @@ opening_row opening =
       sf = opening.sf;
     }
 
--- The counter's value after a meter entry. After a reset or a rescale (a change of the scale
--- factor), the value that the counter was set to.
+-- The counter's value after a meter entry. For a reset or a rescale (a change of the scale factor),
+-- this is the value that the counter was set to.
 abbrev pub raw_after : EntryKind → EntryRow → ℕ
 raw_after kind.Reset e = e.after
 raw_after kind.Rescale e = e.after
@@ -255,8 +256,8 @@ entered_rows opening (row ∷ rows) =
     entered opening.meter (entry_row (scale_after opening (row ∷ rows)) row)
     ∷ entered_rows opening rows
 
--- The rows of `entries` for a meter that is found by the record of its installation. A meter
--- without this record has no rows.
+-- The rows of `entries` for a meter, given its opening (the record that installs the meter). A
+-- meter without an opening has no rows.
 abbrev pub entries_at : List Fact → Option Opening → List Entered
 entries_at facts None = []
 entries_at facts (Some opening) = entered_rows opening (rows_of facts opening)

@@ -1,5 +1,5 @@
--- Definitions of when the tables of the store encode a list of records that the rules accepted one
--- after another.
+-- Definitions of when the tables of the store encode a list of records. The rules for records (for
+-- example, device names are unique) accepted these records one after another.
 use Rattle.std.specs.Prelude.{ℕ, pos, List, [], ◌∷◌, map}
 use Rattle.std.specs.List.{filter}
 use Rattle.std.specs.List.Sorted.{IsPermutation}
@@ -27,12 +27,13 @@ use Rattle.office_store.specs.Rows.{placed, placed_on, added, listed, points_of,
 abbrev pub meta_tree : ℕ
 meta_tree = 0
 
--- The columns of the row of `meta` in a file of version 3.
+-- The columns of the only row of the table `meta` in a file of version 3: the version and the time
+-- zone.
 abbrev pub meta_columns : (zone : List ℕ) → Row
 meta_columns zone = Int (pos 1) ∷ Null ∷ Int (pos 3) ∷ Text zone ∷ []
 
 -- True if the rows of `points` encode each device's latest list of SunSpec points in the records,
--- in order.
+-- in the order of that list.
 pub record ArePoints (facts : List Fact) (content : Content) : Type 0 where
   pub rows : List Listed
   pub there : HasRows list_tree.points point_columns rows content
@@ -58,7 +59,7 @@ pub record AreIntervals (facts : List Fact) (content : Content) : Type 0 where
       (map (interval_of meter) (rows_of_meter facts meter))
 
 -- True if the tables encode the time zone `zone` and the records `facts`. The records are listed
--- latest first, and the rules accepted each one after the earlier ones.
+-- latest first, and the rules for records accepted each record after the earlier ones.
 pub record AreOf (zone : List ℕ) (facts : List Fact) (content : Content) : Type 0 where
   pub lawful : AreLawful facts
   pub meta : HasRows meta_tree meta_columns (zone ∷ []) content

@@ -1,4 +1,4 @@
-//! Writes records to the tables of the store, in one transaction.
+//! Writes metering records to the tables of the store, in one transaction.
 
 mod books;
 mod corrections;

@@ -1,4 +1,4 @@
-//! Creates a store in a database, or opens a store.
+//! Creates a store of metering records in an SQLite database, or opens such a store.
 ghost use Rattle.std.specs.Prelude.{◌≡◌, ◌≢◌, ◌⊎◌, ℕ, List, [], false, Err, IsTrue, IfOk, IfErr};
 ghost use Rattle.sqlite.specs.Held.{state};
 ghost use Rattle.sqlite.specs.State.{HasCleanDisk};
@@ -23,9 +23,9 @@ use std::alloc::Global;
 use store_tables::OpenFault;
 
 impl<S: Alter> SqlBooks<S> {
-    /// Creates the tables of a new store in a database without tables. `zone` determines the civil
-    /// days of the store. The tables are created in one transaction, whose commit is the last
-    /// database call.
+    /// Creates the tables of a new store in a database without tables. The time zone `zone`
+    /// determines the civil days of the store. The tables are created in one transaction, whose
+    /// commit is the last database call.
     ///
     /// Faults: `NotOurs` if the database has any table, index or view, or a transaction is open.
     /// `Zone` if `zone` is not a valid time zone.
@@ -61,13 +61,13 @@ impl<S: Alter> SqlBooks<S> {
         }
     }
 
-    /// Opens the store of a database. A file of version 1 or 2 is upgraded to version 3 in one
-    /// transaction, whose commit is the last database call. Version 1 has no counter ranges, so the
-    /// upgrade inserts the range 2^32 for each meter.
+    /// Opens the store that a database has. A file of version 1 or 2 is upgraded to version 3 in
+    /// one transaction, whose commit is the last database call. Version 1 has no counter ranges, so
+    /// the upgrade inserts the range 2^32 for each meter.
     ///
-    /// Faults: `NotOurs` if a transaction is open, or if `meta` has another version than the
-    /// tables. Also `NotOurs` if the tables don't have the names of version 1, 2 or 3 in their
-    /// order. `Zone` if the file's zone is invalid.
+    /// Faults: `NotOurs` if a transaction is open, or if the table `meta` has another version than
+    /// the tables. Also `NotOurs` if the tables don't have the names of version 1, 2 or 3, in the
+    /// order of this version. `Zone` if the file's time zone is invalid.
     pub fn open(alloc: Global, connection: Connection<S>) -> Result<SqlBooks<S>, Unopened<S>>
         ensures busy { IsTrue connection.in_transaction
             → (reported_by result ≡ Err OpenFault.NotOurs) × (connection_in result ≡ connection) }

@@ -1,5 +1,5 @@
 //! Queries for devices, point lists, accounting registers (named energy counters), polls, stored
-//! requests and the latest timestamp.
+//! requests (kept to detect retries) and the latest timestamp.
 
 mod device_rows;
 mod kept;

@@ -1,4 +1,5 @@
-//! Theorems about the tables of a store of metering records.
+//! Theorems that the tables of a store of metering records determine the records that they encode,
+//! also after a crash.
 
 mod laws;
 

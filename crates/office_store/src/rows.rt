@@ -1,4 +1,4 @@
-//! Conversions from records to the rows of the tables.
+//! Conversions from stored records to the rows of the tables.
 ghost use Rattle.std.specs.Prelude.{◌≡◌, ◌≤◌, true, IsTrue};
 ghost use Rattle.energy_core.specs.Account.{IsScale, moment_of};
 ghost use Rattle.store_tables.specs.Columns.{is_within};
@@ -68,7 +68,7 @@ pub fn last_row(last: Last, total: u64) -> LastRow
 }
 
 /// Returns the state of a counter after a meter entry. After a reset or a rescale (a change of the
-/// scale factor), the counter has the value that it was set to.
+/// scale factor), the state has the value that the counter was set to.
 pub fn counter_after(entry: &EntryRow) -> Last
     ensures { result ≡ rows.counter_after entry.now }
 {
@@ -173,8 +173,8 @@ pub fn begun_row(opening: &Opening, place: u64) -> InstallationRow
     }
 }
 
-/// Returns the row of `entries` for an opening, the record that installs a meter. It is the meter's
-/// first entry, at index 1.
+/// Returns the row of `entries` for an opening, the record that installs a meter. This row is the
+/// meter's first entry, at index 1.
 pub fn opening_row(opening: &Opening) -> EntryRow
     ensures row { result ≡ rows.opening_row opening.now }
     ensures sound { IsSoundOpening opening.now → IsSoundEntry result }

@@ -19,13 +19,13 @@ pub(crate) trait RowReader<T> {
     ghost use Rattle.store_tables.specs.declared.faults.RowFault as faults;
     ghost use Rattle.store_tables.specs.declared.faults.RowFault.TheVariants.{Damaged};
 
-    /// The value or the error that the reader returns for a result row.
+    /// The value or the error that a reader of a query's result rows returns for a row.
     ghost reads: { Self → order.Row → Result T faults.RowFault };
 
-    /// A property of every value that the reader returns.
+    /// A property of every value that `read` returns for a result row of the query.
     ghost is_row: { T → Type 0 };
 
-    /// Reads the value of a result row.
+    /// Reads the value of a result row of a query.
     fn read(&self, row: &Row) -> Result<T, RowFault>
         ensures read { result ≡ reads self.now row.now }
         ensures sound { IfOk result is_row }
@@ -33,7 +33,7 @@ pub(crate) trait RowReader<T> {
 }
 
 /// Passes the rows of a query to `sink` one by one. Ends with `InvalidQuery` after 2^64 - 1 rows,
-/// the greatest number that it can count.
+/// the greatest number that the function can count.
 pub(crate) fn hand_on<S: Alter, T, R: RowReader<T>, K: RowSink<T>>(
     conn: &mut Connection<S>,
     sql: &str,

@@ -1,4 +1,5 @@
--- Proves that an empty store agrees with the empty history of events.
+-- Proves that an empty store has exactly the records that the empty history of events requires:
+-- none.
 use Rattle.std.proofs.Common.{zero, suc, [], ◌∷◌, inl, refl, arith}
 use Rattle.std.specs.Prelude.{All}
 use Rattle.memory_books.specs.declared.list_books.ListBooks.{ListBooks}

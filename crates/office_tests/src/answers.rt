@@ -1,5 +1,5 @@
-//! Tests that write answers and notifications to a failing writer. In attempt N, call N to the
-//! writer fails.
+//! Tests that write answers and notifications (the printed results of events) to a failing writer.
+//! In attempt N, call N to the writer fails.
 use crate::streams::Kept;
 use energy_core::Cause;
 use office_events::{Answer, Name, Note};
@@ -42,9 +42,9 @@ const WHOLE: &str = "\
     held m1 4294967295 cause 6\n\
     started 1 1 2 00ff\n";
 
-// Writes the output repeatedly. In repetition N, write number N fails. The repetitions end when no
-// write fails. Each write accepts at most `most` bytes. Returns the number of writes in the
-// complete output.
+// Writes the output repeatedly, and asserts that each failing write is reported. In repetition N,
+// write number N fails. The repetitions end when no write fails. Each write accepts at most `most`
+// bytes. Returns the number of writes in the complete output.
 fn assert_failing_writes(
     rt: &impl Abort,
     alloc: Global,
@@ -73,7 +73,7 @@ struct Case {
     calls: usize,
 }
 
-// Frames whose hex text needs several writes of at most 64 digits.
+// Test cases with frames whose hex text needs several writes of at most 64 digits.
 static CASES: [Case; 5] = [
     Case {
         frames: b"\x00\x00\x00\x00\x00\x06\x01\x03\x9c\x9e\x00\x03",
@@ -108,8 +108,8 @@ static CASES: [Case; 5] = [
     },
 ];
 
-// Every failed write of the notifications or of the answer is reported, and the notifications are
-// written before the answer.
+// Every failed write of an event's notifications or of its answer is reported, and the
+// notifications are written before the answer.
 #[test]
 fn each_failing_write_is_reported(rt: HostRuntime) {
     let notes = notes(&rt);

@@ -34,12 +34,13 @@ static DEVICES: [&str; 2] = ["1000 device inv 1 5 1", "1000 device two 1 5 1"];
 
 const NAMES: [&[u8]; 2] = [b"inv", b"two"];
 
-/// Returns the names of the two devices.
+/// Returns the names of the two devices of the test setup.
 pub(crate) fn names() -> [Option<Name>; 2] {
     [inv(), Name::new(b"two")]
 }
 
-/// The result of a test: the polling rounds of the two devices, and the observer.
+/// The result of a test with two devices: the polling round of each device, and the observer that
+/// receives the reports of events.
 #[derive(Drop)]
 pub(crate) struct Bench<W> {
     pub(crate) rounds: Vec<Round>,
@@ -62,8 +63,8 @@ fn device_event(rt: &impl Abort, alloc: Global, step: Step) -> DeviceEvent {
     }
 }
 
-/// Processes the given events, and returns the observer and the polling rounds of both devices.
-/// Each device has a reading plan with two reads.
+/// Processes the given events. Returns the polling rounds of both devices, and the observer, which
+/// received a report of each event. Each device has a plan with two Modbus reads.
 pub(crate) fn play<B: Books, W: Observer + Drop>(
     rt: &impl Abort,
     alloc: Global,

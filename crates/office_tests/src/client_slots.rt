@@ -17,7 +17,8 @@ fn full() -> ClientSlots {
     client_slots
 }
 
-/// A new client connection gets the first free one of the 64 slots.
+/// A new client connection gets the first free one of the server's 64 slots (places for
+/// connections).
 #[test]
 fn places_are_given_in_order(rt: HostRuntime) {
     let mut client_slots = ClientSlots::new();

@@ -11,10 +11,10 @@ use poll_core::Outcome;
 use std::alloc::Global;
 use std::process::Abort;
 
-/// A short form of a record in a test store.
+/// A record for the store of a test, in a short form that the test converts to the record.
 #[derive(Clone, Copy)]
 pub(crate) enum Booked {
-    /// A device with this name.
+    /// A record of a device, given the device's name.
     Device(&'static [u8]),
     /// An accounting register (a named counter), by its name, its device's name, and the Modbus
     /// function, the Modbus address and the scale of its counter.
@@ -103,7 +103,8 @@ fn fact(rt: &impl Abort, booked: &Booked) -> Fact {
     }
 }
 
-/// Returns the records of a list of short forms, in order.
+/// Returns the store's records that a list of `Booked` values (short descriptions of records in
+/// tests) describes, in the order of the list.
 pub(crate) fn facts(rt: &impl Abort, alloc: Global, history: &[Booked]) -> Vec<Fact> {
     let mut facts = Vec::new(alloc);
     for booked in history {

@@ -9,15 +9,15 @@ use office_program::RoundFault;
 use std::alloc::Global;
 use std::process::Abort;
 
-// The number of calls to the link in one polling round, if the link transfers at most 7 bytes in
-// each call. Both requests together need 4 calls, the first response needs 37, and the second
-// response needs 2.
+// The number of calls to the link (the connection to the device) in one polling round, if the link
+// transfers at most 7 bytes in each call. The two requests of the round together need 4 calls, the
+// first response needs 37, and the second response needs 2.
 const CALLS: u64 = 43;
 
 const UP_TO_FIRST: u64 = 41;
 
-// Returns true if the polls have the outcomes that are expected after a failure of the link at call
-// `number`.
+// Returns true if the polls have the outcomes that are expected if call `number` to the link (the
+// connection to the device) fails.
 fn are_ends(polls: Ends, number: u64) -> bool {
     if number <= UP_TO_FIRST {
         polls == [LOST, LOST, None]
@@ -28,8 +28,9 @@ fn are_ends(polls: Ends, number: u64) -> bool {
     }
 }
 
-/// Runs a polling round in which both polls are pending at the same time, and call `number` of the
-/// link fails. Asserts that the round fails with the fault `Link`, that each pending poll is lost,
+/// Runs a polling round whose two polls are pending at the same time, and in which call `number` to
+/// the link (the connection to the device) fails. The call fails only if the round makes so many
+/// calls. Asserts that the round then fails with the fault `Link`, that each pending poll is lost,
 /// and that a restart changes no outcome.
 pub(crate) fn fail_call<B: Books>(rt: &impl Abort, alloc: Global, books: B, number: u64) {
     let mut office = listed(rt, alloc, books, BOTH_AT_ONCE);

@@ -10,13 +10,13 @@ use std::process::Abort;
 use std::str;
 
 enum Kind {
-    /// A command or a query. If the store fails, the test sends the script line again.
+    /// The script line is a command or a query. If the store fails, the test sends this line again.
     Asks,
-    /// A command in a request whose idempotency key has this number. If the store fails, the test
-    /// sends the script line again.
+    /// The script line is a command in a request whose idempotency key has this number. If the
+    /// store fails, the test sends this line again.
     Requests(u64),
-    /// A device event. If the store fails during the event, queries must print these rows after a
-    /// restart.
+    /// The script line is a device event. If the store fails during the event, queries must print
+    /// these rows after a restart.
     Happens(&'static str),
 }
 
@@ -242,7 +242,8 @@ fn open_again<B: Books>(rt: &impl Abort, alloc: Global, mut office: Office<B>, r
     again.into_books().faults()
 }
 
-/// Runs all script lines over a store, and returns the number of failures of the store.
+/// Runs all script lines of this test over a store, and returns the number of failures of the
+/// store.
 pub(crate) fn play<B: Books>(rt: &impl Abort, alloc: Global, books: B) -> u64 {
     let mut office = opened(rt, alloc, books, 0);
     for line in &LINES {

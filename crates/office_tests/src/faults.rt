@@ -163,7 +163,8 @@ const PARTS: [(ListFault, &str); 2] = [
     (ListFault::Memory, "out of memory"),
 ];
 
-// Asserts that each fault has its expected text, which does not end with a full stop.
+// Asserts that each given fault, such as one of a script line or a point list, is displayed as its
+// given text. The text does not end with a full stop.
 fn assert_texts<F: Display>(rt: &impl Abort, alloc: Global, texts: &[(F, &str)]) {
     for (fault, text) in texts {
         assert_text(rt, alloc, fault, *text);
@@ -191,8 +192,8 @@ const STORE_REFUSED: BooksFault = BooksFault::Store(StoreFault::Refused);
 
 const STORE_DAMAGED: BooksFault = BooksFault::Store(StoreFault::Damaged);
 
-// The results of successive calls to a store. Each has the expected number of failures after it,
-// and the expected last failure.
+// The results of successive calls to a store. Each result comes with the number of failures and the
+// last failure that the store must report after the call.
 static CALLS: [(Result<u8, BooksFault>, u64, Option<BooksFault>); 5] = [
     (Ok(7), 0, None),
     (Err(STORE_REFUSED), 1, Some(STORE_REFUSED)),

@@ -94,8 +94,8 @@ fn assert_run<B: Books>(rt: &impl Abort, alloc: Global, mut done: Run<B>) {
     assert_opened_again(rt, alloc, done.office.into_books());
 }
 
-/// A run of events returns the answer to each event. If a poll is pending at the end, it is lost
-/// when the store is opened again.
+/// Running a list of events returns the answer to each event. A poll that is pending at the end
+/// gets the outcome `lost` when the store is opened again.
 #[test]
 fn a_run_keeps_each_answer(rt: HostRuntime) {
     let zone = Zone::read("UTC0").expect(&rt, "a zone");

@@ -134,8 +134,8 @@ static READS: [Step; 12] = [
 
 const REFUSED: BooksFault = BooksFault::Store(StoreFault::Refused);
 
-// Asserts that each test step has its expected result. If the store below the cache fails during a
-// step, the step is repeated.
+// Asserts that each test step has its expected result. If the store below the cache (of lookup
+// results) fails during a step, the step is repeated.
 fn assert_steps<B: Books>(rt: &impl Abort, alloc: Global, books: &mut B, steps: &[Step]) {
     for (place, step) in steps.iter().enumerate() {
         match try_step(rt, alloc, books, *step) {
@@ -149,8 +149,8 @@ fn assert_steps<B: Books>(rt: &impl Abort, alloc: Global, books: &mut B, steps: 
     }
 }
 
-// Executes test steps over a cache, and then the last step over the store below the cache. Returns
-// the number of failures before the last step.
+// Executes test steps over a cache of lookup results, and then the last step over the store below
+// the cache. Returns the number of failures before the last step.
 fn play<B: Books>(rt: &impl Abort, alloc: Global, beneath: B, steps: &[Step]) -> u64 {
     let mut books = CachedBooks::new(alloc, beneath);
     assert_steps(rt, alloc, &mut books, steps);
@@ -162,7 +162,8 @@ fn play<B: Books>(rt: &impl Abort, alloc: Global, beneath: B, steps: &[Step]) ->
     faults
 }
 
-/// Executes all test steps over a cache, and returns the number of failures of the store below it.
+/// Executes all test steps over a cache of lookup results, and returns the number of failures of
+/// the store below it.
 pub(crate) fn play_all<B: Books>(rt: &impl Abort, alloc: Global, beneath: B) -> u64 {
     play(rt, alloc, beneath, &STEPS)
 }
@@ -181,7 +182,7 @@ pub(crate) fn read_twice<B: Books>(
     }
 }
 
-// Asserts that a test makes exactly `calls` calls to the store below the cache.
+// Asserts that a test makes exactly `calls` calls to the store below the cache of lookup results.
 fn assert_calls(rt: &impl Abort, alloc: Global, trial: Trial, calls: u64) {
     for failing in 1..=calls.saturating_add(1) {
         let faults = try_failing(rt, alloc, failing, trial);
@@ -192,14 +193,15 @@ fn assert_calls(rt: &impl Abort, alloc: Global, trial: Trial, calls: u64) {
     }
 }
 
-/// If any one call to the store below the cache fails, the cache still returns correct results.
+/// If any one call to the store that the cache of lookup results queries fails, the cache still
+/// returns correct results.
 #[test]
 fn kept_answers_outlive_failures(rt: HostRuntime) {
     assert_calls(&rt, rt.alloc(), Trial::Kept, CALLS);
 }
 
-/// The store below the cache is queried only once for the accounting registers (named counters)
-/// that a Modbus read covers.
+/// The store below the cache of lookup results is queried only once for the accounting registers
+/// (named counters) that a Modbus read covers.
 #[test]
 fn a_read_is_asked_of_the_store_once(rt: HostRuntime) {
     for place in 0..READS.len() {

@@ -62,7 +62,7 @@ fn assert_led(rt: &impl Abort, alloc: Global, names: &str, period: Period, wante
     }
 }
 
-/// `sunreg run` continues the file of the latest period.
+/// `sunreg run` continues the file of the latest period (day, month or year).
 #[test]
 fn books_are_led_in_the_file_that_was_made_last(rt: HostRuntime) {
     for (names, by_month, by_year) in FOLDERS {

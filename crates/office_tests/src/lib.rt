@@ -1,6 +1,7 @@
-//! Tests for cases that cannot be tested by a script. They cover failing connections, streams and
-//! stores, stores with caches, polling rounds, schedules, and the reports of `sunreg run`. Other
-//! tests cover inputs of megabytes, values that no script prints, and the values of arguments.
+//! Tests for cases that no script (a text of commands, events and queries) can test. They cover
+//! failing connections, streams and stores, stores with caches, polling rounds, schedules, and the
+//! reports of `sunreg run`. Other tests cover inputs of megabytes, values that no script prints,
+//! and the values of arguments.
 //!
 //! Cases that can be tested by a script are golden tests of `tests/scripts`, and
 //! `tests/arguments.py` tests help and wrong arguments.

@@ -19,7 +19,8 @@ fn reads_no_other_lines(rt: HostRuntime) {
     assert!(rt; BankLine::read(b"area coil 0 1\r").is_none());
 }
 
-// Returns the script line that sets a point list, whose text is `count` zero bytes in hex.
+// Returns the script line that sets a device's point list. The text of the list is `count` bytes of
+// value 0, written in hex.
 fn zeros_listed(rt: &impl Abort, alloc: Global, count: usize) -> Vec<u8> {
     let mut text = b"1900 list inv ".to_vec(alloc).expect(rt, "no memory");
     text.resize(14 + 2 * count.min(70_000), b'0')

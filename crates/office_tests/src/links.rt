@@ -3,10 +3,12 @@ use mb_wire::{LastTake, Link, LinkFailed, Took};
 use std::alloc::Global;
 use std::process::Abort;
 
-/// The response to the second read of the point list: one Modbus register with the value 7.
+/// The response of the test device to the second read of its point list: one Modbus register with
+/// the value 7.
 pub(crate) const SECOND_REPLY: &[u8] = b"\x00\x01\x00\x00\x00\x05\x01\x03\x02\x00\x07";
 
-/// Returns the response to the first read of the point list: 125 Modbus registers with the value 0.
+/// Returns the response of the test device to the first read of its point list: 125 Modbus
+/// registers with the value 0.
 pub(crate) fn first_reply(rt: &impl Abort, alloc: Global) -> Vec<u8> {
     let mut bytes = b"\x00\x00\x00\x00\x00\xfd\x01\x03\xfa"
         .to_vec(alloc)
@@ -15,14 +17,14 @@ pub(crate) fn first_reply(rt: &impl Abort, alloc: Global) -> Vec<u8> {
     bytes
 }
 
-/// Returns the responses to both reads of the point list.
+/// Returns the responses of the test device to both reads of its point list.
 pub(crate) fn replies(rt: &impl Abort, alloc: Global) -> Vec<u8> {
     let mut bytes = first_reply(rt, alloc);
     bytes.extend_from_slice(SECOND_REPLY).expect(rt, "memory");
     bytes
 }
 
-/// A link to a device that accepts all writes, and on which each read times out.
+/// A link (a connection to a device) that accepts all writes, and on which each read times out.
 #[derive(Drop)]
 pub(crate) struct IdleLink {
     takes: u64,

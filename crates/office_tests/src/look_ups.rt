@@ -1,4 +1,5 @@
-//! Tests how many calls to the store are made before an event is refused or a retry is answered.
+//! Tests how many calls to the store the office (the core of `sunreg`) makes before it refuses an
+//! event or answers a retry.
 use crate::offices::{READ, event_of, new_books, office_after, opened, request_of};
 use memory_books::{FailingBooks, ListBooks};
 use office_books::Books;

@@ -6,7 +6,7 @@ use mb_wire::MemoryLink;
 use script_run::{Connects, Ends, Loopback, loop_text};
 use std::io::{self, ErrorKind};
 
-// A source of connections that always fails.
+// A source of connections to simulated devices that refuses each connection.
 #[derive(Drop)]
 struct Broken;
 
@@ -37,7 +37,8 @@ const PRINTED: &str = "\
     bad line 6\n";
 
 // Test cases: the number of bytes that the writer accepts before it fails, and the exit status.
-// Each number is 0 or the end of a line, and the last is the length of the complete output.
+// Each number of bytes is 0 or ends an output line, and the last is the length of the complete
+// output.
 static ENDS: [(usize, ExitStatus); 9] = [
     (0, ExitStatus::Failed),
     (3, ExitStatus::Failed),

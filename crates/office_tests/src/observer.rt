@@ -1,9 +1,9 @@
-//! An observer that records the events of an office (the core of `sunreg`) as letters, for tests.
+//! An observer, for tests, that records the events of an office (the core of `sunreg`) as letters.
 use office_events::{Answer, Command, Event, Note, Observer, Refusal};
 use poll_core::{Closing, Outcome};
 use std::alloc::Global;
 
-/// An observer that records what it observes as letters.
+/// An observer for tests that writes a letter for each event and each ended poll that it observes.
 ///
 /// For each event, the observer writes the index of the polled device, if any, and a letter. The
 /// letters are C (connected), S (start), B (bytes), T (timer event), G (gone) and F (failed). `!`

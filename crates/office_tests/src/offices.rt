@@ -64,7 +64,8 @@ pub(crate) fn opened<B: Books>(rt: &impl Abort, alloc: Global, books: B, moment:
         .expect(rt, "an office that is opened again")
 }
 
-/// Returns the event that starts a poll.
+/// Returns the event that requests the given start of a poll: the device and the Modbus registers
+/// to read.
 pub(crate) fn start_of(rt: &impl Abort, given: &GivenStart) -> Event {
     Event::Command(Command::StartPoll(StartPoll {
         device: given.device,

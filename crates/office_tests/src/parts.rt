@@ -56,8 +56,8 @@ const RESCALED: MeterEntry = later!(
     }
 );
 
-// Test cases: a sequence number, a maximum number of entries, and the entries of m1 that a query
-// with these two limits must return.
+// Test cases: a sequence number, a maximum number of entries, and the entries of the meter m1 that
+// a query with these two limits must return.
 type Asked = (u64, u32, &'static [MeterEntry]);
 
 static ENTRIES: [Asked; 7] = [

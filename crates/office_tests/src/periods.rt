@@ -13,7 +13,7 @@ const CENTRAL_EUROPE: &str = "CET-1CEST,M3.5.0,M10.5.0/3";
 const TWICE: &str = "AAA0BBB,J100/0,J335/0:30";
 
 // Test cases: a time zone, a period, a time in the period, and the expected time of the period's
-// end. The last is 0 if the period has no end.
+// end. The end is 0 if the period has no end.
 type Case = (&'static str, Period, u64, u64);
 
 static ENDS: [Case; 21] = [
@@ -72,7 +72,7 @@ static LAST_DAYS: [(i16, i8, i8, i8); 6] = [
     (2100, 2, 1, 28),
 ];
 
-/// The last day of a month or a year is correct, also in leap years.
+/// The last day that the program computes for a month or a year is correct, also in leap years.
 #[test]
 fn periods_have_a_last_day(rt: HostRuntime) {
     periods_end_with_their_last_day();
@@ -102,7 +102,7 @@ fn a_last_round_has_half_the_time_to_the_next(rt: HostRuntime) {
     }
 }
 
-/// The text of a period is its day, month or year, as in the rows of reports.
+/// The text of a period is its day, month or year, as the rows of reports print it.
 #[test]
 fn periods_have_the_names_of_rows(rt: HostRuntime) {
     let day = day(&rt, 2026, 3, 7);

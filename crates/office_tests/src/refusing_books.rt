@@ -29,8 +29,9 @@ static LEFT: [Ends; 4] = [
     [ANSWERED, RESTARTED, None],
 ];
 
-// The test's result if no call to the store fails. The result `NOT_BROKEN` means that the chosen
-// call fails before the polling round begins.
+// Numbers that a test reports instead of an index in `LEFT` (a table of expected outcomes).
+// `NOT_REFUSED` means that no call to the store failed. `NOT_BROKEN` means that the chosen call
+// failed before the polling round began.
 const NOT_REFUSED: u64 = 10;
 
 const NOT_BROKEN: u64 = 11;

@@ -1,5 +1,5 @@
-//! Tests requests that no client can send by HTTP, and the comparison of a request with a stored
-//! request.
+//! Tests requests that no client can send by HTTP, and the comparison of a request with the request
+//! that is stored under the same idempotency key.
 use crate::offices::{READ, office_after, request_of};
 use crate::tried::{Trial, try_in_memory};
 use office_books::{Books, Repeat};
@@ -59,8 +59,8 @@ fn assert_repeats<B: Books>(rt: &impl Abort, office: &mut Office<B>) {
     }
 }
 
-/// Sends the requests after a meter was read, and compares each request with the stored request of
-/// its idempotency key.
+/// Sends the test's requests after a meter was read, and compares each request with the stored
+/// request of its idempotency key.
 pub(crate) fn play<B: Books>(rt: &impl Abort, alloc: Global, books: B) {
     let mut office = office_after(rt, alloc, books, &READ);
     assert_requests(rt, alloc, &mut office);

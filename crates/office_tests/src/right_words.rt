@@ -4,8 +4,8 @@ use command_words::{WordsFault, command_of};
 use std::alloc::Global;
 use std::process::Abort;
 
-// Each case has a command line, with `|` between its arguments. The next line is the text of the
-// parsed command.
+// Each test case has a command line, with `|` between its arguments, and on the next line the text
+// of the parsed command.
 static RIGHT: [&str; 52] = [
     "replay\n\
      Replay { zone: \"UTC0\" }",
@@ -40,7 +40,8 @@ static RIGHT: [&str; 52] = [
      Report { db: \"o.db\", register: \"main\", form: FormWords { from: Some(\"2024-02-30\"), \
      till: Some(\"\"), period: Some(Year), unit: Some(KilowattHours), format: Some(Json), \
      statement: false } }",
-    // The units, periods and formats of a report that the test cases above do not use.
+    // Test cases for the units, periods and formats of a report that the other test cases do not
+    // use.
     "report|--db|o.db|--register|main|--by|day|--unit|mwh|--format|text\n\
      Report { db: \"o.db\", register: \"main\", form: FormWords { from: None, till: None, \
      period: Some(Day), unit: Some(MilliwattHours), format: Some(Text), statement: false } }",
@@ -52,7 +53,7 @@ static RIGHT: [&str; 52] = [
     "report|--db|o.db|--register|main|--statement|--unit|kwh\n\
      Report { db: \"o.db\", register: \"main\", form: FormWords { from: None, till: None, \
      period: None, unit: Some(KilowattHours), format: None, statement: true } }",
-    // The files of a report over several files keep the order of the arguments.
+    // In a report over several files, the files keep the order in which the arguments name them.
     "report|--db=2026.db|--register|main|--db|o.db|--statement|--\n\
      ReportFiles { files: [\"2026.db\", \"o.db\"], register: \"main\", form: FormWords { \
      from: None, till: None, period: None, unit: None, format: None, statement: true } }",
@@ -90,7 +91,8 @@ static RIGHT: [&str; 52] = [
      Audit { dbs: [\"o.db\"], seal: Against(\"seal.txt\") }",
     "audit|--db=old.db|--db|o.db\n\
      Audit { dbs: [\"old.db\", \"o.db\"], seal: Nothing }",
-    // Without `--devices`, the command `enter` can read no counter.
+    // Without `--devices`, the command `enter`, which records entries by hand, can read no counter
+    // of a device.
     "enter|--db|o.db|--caller|site\n\
      Enter { db: \"o.db\", caller: \"site\", devices: [], only_read: false }",
     "enter|-n|--caller|site|--db|o.db\n\
@@ -106,7 +108,7 @@ static RIGHT: [&str; 52] = [
      Serve { db: \"o.db\", port: 8080, \
      connections: 7, host_names: [\"a.example\", \"b.example\"] }",
     // Without optional arguments, the command `run` runs until it is stopped, begins no new files,
-    // and has no limit for stored requests.
+    // and has no limit for stored requests (accepted commands kept with their responses).
     "run|--db|o.db|--listen|8080|--every|60|--devices|inv=192.0.2.7:502\n\
      Run { dbs: [\"o.db\"], listen: 8080, every: 60, devices: [Device { name: \"inv\", \
      host: \"192.0.2.7\", port: 502 }], lasts: None, carry: None, \
@@ -127,7 +129,7 @@ static RIGHT: [&str; 52] = [
      Run { dbs: [\"2025.db\", \"o.db\"], listen: 8080, every: 60, devices: [Device { \
      name: \"inv\", host: \"192.0.2.7\", port: 502 }], lasts: None, carry: Some(Month), \
      earlier: None, host_names: [], most_kept: None, verbose: false }",
-    // Command lines with numbers at their limits.
+    // Test cases: command lines with numbers at their limits.
     "serve|--db|x|--connections|1|--port|1\n\
      Serve { db: \"x\", port: 1, connections: 1, host_names: [] }",
     "serve|--db|x|--connections|1|--port|65535\n\
@@ -168,8 +170,8 @@ static RIGHT: [&str; 52] = [
      earlier: None, host_names: [], most_kept: Some(1000000), verbose: false }",
 ];
 
-// Each case has the device list of a command `run`. The next line is the text of the parsed
-// devices.
+// Each test case has the device list of a command `run`, and on the next line the text of the
+// parsed devices.
 static LISTS: [&str; 7] = [
     "a=h:1\n\
      Device { name: \"a\", host: \"h\", port: 1 }",
@@ -210,14 +212,16 @@ fn spelled(rt: &impl Abort, alloc: Global, words: &[&str]) -> String {
     text.expect(rt, "no memory")
 }
 
-// Asserts that a command line parses to the expected text.
+// Asserts that parsing the arguments in `line` (separated by a vertical bar) gives a command or an
+// error with the text `text`.
 fn assert_spelled(rt: &impl Abort, alloc: Global, line: &str, text: &str) {
     let words: Vec<&str> = line.split('|').collect(alloc).expect(rt, "no memory");
     let found = spelled(rt, alloc, &words);
     assert!(rt; found.as_str() == text, "{line}: {found}");
 }
 
-// The command line of each case parses to the text of the case.
+// Each command line in the table `RIGHT` is parsed. The parsed command, printed as text, must be
+// the text beside the command line in the table.
 #[test]
 fn words_spell_commands(rt: HostRuntime) {
     for case in &RIGHT {
@@ -238,7 +242,7 @@ fn assert_devices(rt: &impl Abort, alloc: Global, list: &str, devices: &str) {
     assert_spelled(rt, alloc, line.as_str(), text.as_str());
 }
 
-// The device list of each case parses to the devices of the case.
+// The device list of each test case parses to the expected devices of the case.
 #[test]
 fn device_lists_spell_devices(rt: HostRuntime) {
     for case in &LISTS {

@@ -60,11 +60,12 @@ poll 2 lost 3
 ok
 ";
 
-/// How the device behaves in a polling round.
+/// The behavior of the device that a test simulates in a polling round: it responds, closes the
+/// connection, accepts no bytes, or sends nothing.
 #[derive(Clone, Copy)]
 enum Does {
-    /// The device responds to both Modbus reads. If a number is given, the call to the link with
-    /// this number fails.
+    /// The device responds to both Modbus reads. If a number is given, the call with this number to
+    /// the link (the connection to the device) fails.
     Replies(Option<u64>),
     /// The device closes the connection without a response.
     Ends,
@@ -105,7 +106,8 @@ const FIRST: Ends = [LOST, None, None];
 const SECOND: Ends = [ANSWERED, LOST, None];
 
 static CASES: [Case; 11] = [
-    // The device responds to each Modbus read of the plan.
+    // In this case the device responds to each Modbus read of the plan (the reads that cover the
+    // device's points).
     (
         Does::Replies(None),
         &[1000, 1001],
@@ -115,7 +117,8 @@ static CASES: [Case; 11] = [
     ),
     // The device closes the connection before it responds.
     (Does::Ends, &[1000], Ok(()), GONE, [WENT, None, None]),
-    // The device does not respond, and each Modbus read of the plan is still sent.
+    // The device does not respond, and each Modbus read of the device's plan (the reads that cover
+    // its point list) is still sent.
     (
         Does::IsSilent,
         &[1000, 1000, 1004, 1005, 1005, 1009, 1010],
@@ -139,20 +142,21 @@ static CASES: [Case; 11] = [
         BROKEN_OFF,
         FIRST,
     ),
-    // In the first four cases, one of the four calls to the link fails. The round makes one write
-    // and one read for each of its two polls. In the fifth case no call fails, because the round
-    // makes no fifth call.
+    // In the first four of these test cases, one of the four calls to the link (the connection to
+    // the device) fails. The polling round makes one write and one read for each of its two polls.
+    // In the fifth case no call fails, because the round makes no fifth call.
     (Does::Replies(Some(1)), &[1000], LINK, BROKEN_OFF, FIRST),
     (Does::Replies(Some(2)), &[1000], LINK, BROKEN_OFF, FIRST),
     (Does::Replies(Some(3)), &[1000], LINK, SECOND_LOST, SECOND),
     (Does::Replies(Some(4)), &[1000], LINK, SECOND_LOST, SECOND),
     (Does::Replies(Some(5)), &[1000], Ok(()), BOTH_ANSWERED, BOTH),
-    // If a write transfers no bytes, it counts as a failure of the link.
+    // If a write transfers no bytes, it counts as a failure of the link (the connection to the
+    // device).
     (Does::TakesNothing, &[1000], LINK, BROKEN_OFF, FIRST),
 ];
 
-// Executes a polling round over a link in memory with this input. One call to the link may fail.
-// Returns the number of failed calls.
+// Executes a polling round over a link (a connection to a device) in memory with this input. One
+// call to the link may fail. Returns the number of failed calls.
 fn round_over_memory<B: Books>(
     alloc: Global,
     office: &mut Office<B>,
@@ -167,7 +171,7 @@ fn round_over_memory<B: Books>(
 }
 
 // Executes a polling round with a device that behaves as `does` says. Returns the number of failed
-// calls to the link.
+// calls to the link (the connection to the device).
 fn round_of<B: Books>(
     alloc: Global,
     office: &mut Office<B>,
@@ -205,8 +209,8 @@ pub(crate) fn assert_case<B: Books>(rt: &impl Abort, alloc: Global, books: B, pl
 static FRAMES: &[u8] =
     b"\x00\x00\x00\x00\x00\x06\x01\x03\x00\x00\x00\x7d\x00\x01\x00\x00\x00\x06\x01\x03\x00\x7d\x00\x01";
 
-// Asserts that a polling round sends each Modbus read of the plan once, even if responses arrive in
-// chunks of `piece` bytes.
+// Asserts that a polling round sends each Modbus read of the device's plan (the reads that cover
+// its point list) once. This holds even if responses arrive in chunks of `piece` bytes.
 pub(crate) fn assert_pieces<B: Books>(rt: &impl Abort, alloc: Global, books: B, piece: usize) {
     let input = replies(rt, alloc);
     let mut office = listed(rt, alloc, books, ONE_BY_ONE);
@@ -218,8 +222,8 @@ pub(crate) fn assert_pieces<B: Books>(rt: &impl Abort, alloc: Global, books: B, 
     assert!(rt; ends(&mut office) == BOTH, "{piece}");
 }
 
-// Asserts that a polling round is refused for a device without a point list, and for an unknown
-// device. The device without a point list has first connected and disconnected.
+// Asserts that a polling round is refused for an unknown device, and for a device without a point
+// list. For the latter, the connection and its end are accepted.
 pub(crate) fn assert_not_found<B: Books>(rt: &impl Abort, alloc: Global, books: B) {
     let mut office = office_after(rt, alloc, books, &[ONE_BY_ONE]);
     for _round in 0..2 {
@@ -264,7 +268,8 @@ pub(crate) fn assert_narrow<B: Books>(
     assert!(rt; ends(&mut office) == polls, "room for {room}");
 }
 
-// Asserts that a polling round ends after it has read 100,000 times from its link.
+// Asserts that a polling round ends after it has read 100,000 times from its link (the connection
+// to the device).
 pub(crate) fn assert_takes<B: Books>(rt: &impl Abort, alloc: Global, books: B) {
     let mut office = listed(rt, alloc, books, ONE_BY_ONE);
     let mut link = IdleLink::new();
@@ -274,7 +279,8 @@ pub(crate) fn assert_takes<B: Books>(rt: &impl Abort, alloc: Global, books: B) {
     assert!(rt; ends(&mut office) == [LOST, None, None]);
 }
 
-/// Each polling round has the expected result, printed text and outcomes.
+/// Each polling round of the test cases has the expected result, printed text and outcomes of
+/// polls.
 #[test]
 fn rounds_end_so(rt: HostRuntime) {
     for place in 0..CASES.len() {
@@ -305,7 +311,7 @@ fn each_line_may_fail(rt: HostRuntime) {
     }
 }
 
-/// A polling round ends after 100,000 reads from its link.
+/// A polling round ends after 100,000 reads from its link (the connection to the device).
 #[test]
 fn a_round_has_so_many_takes(rt: HostRuntime) {
     try_in_memory(&rt, rt.alloc(), Trial::Takes);

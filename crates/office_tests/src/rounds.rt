@@ -1,5 +1,5 @@
-//! Executes polling rounds over links in memory for tests, and looks up the outcomes of their
-//! polls.
+//! Executes polling rounds over links (connections to devices) in memory for tests, and looks up
+//! the outcomes of their polls.
 use crate::offices::{assert_list_accepted, inv, office_after};
 use mb_wire::Link;
 use mb_wire::sockets::FixedClock;
@@ -55,7 +55,7 @@ pub(crate) type Ends = [Option<Option<Outcome>>; 3];
 
 pub(crate) const ANSWERED: Option<Option<Outcome>> = Some(Some(Outcome::Answered));
 
-/// The outcome of a poll that was pending when the link failed.
+/// The outcome of a poll that was pending when the link (the connection to the device) failed.
 pub(crate) const LOST: Option<Option<Outcome>> = Some(Some(Outcome::Lost(LostCause::Failed)));
 
 /// The outcome of a poll that was pending at a restart.

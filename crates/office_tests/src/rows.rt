@@ -1,5 +1,5 @@
-//! Tests of report lines that no script can print. These lines have the greatest numbers, or days
-//! long before 1970.
+//! Tests of report lines that no script (a text of timed commands and queries) can print. These
+//! lines have the greatest numbers, or days long before 1970.
 use interval_core::{Day, DayTotal, Share};
 use script_text::{Line, write_day, write_end, write_interval};
 

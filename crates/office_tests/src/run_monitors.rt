@@ -9,7 +9,8 @@ use std::alloc::Global;
 use std::process::Abort;
 use std::str;
 
-// Processes the given events for both devices, with a monitor as the observer of all events.
+// Processes the given events for the two devices of the test setup, with the monitor of `sunreg
+// run` as the observer of all events.
 fn polled(rt: &impl Abort, alloc: Global, moments: &[Moment]) -> Bench<RunMonitor> {
     let monitor = RunMonitor::new(alloc, &names()).expect(rt, "a monitor");
     play(rt, alloc, new_books(rt, alloc), moments, monitor)
@@ -17,8 +18,8 @@ fn polled(rt: &impl Abort, alloc: Global, moments: &[Moment]) -> Bench<RunMonito
 
 const STANDS: Moment = (1001, Step::Stands(0));
 
-// Device indexes in the order in which the test queries them, each with the Modbus frame that the
-// monitor returns.
+// Test cases, in the order of the queries: the index of a device, and the Modbus frame that the
+// monitor of `sunreg run` returns for this device.
 static FRAMES: [(usize, &[u8]); 4] = [
     (0, b"\x00\x00\x00\x00\x00\x06\x01\x03\x00\x00\x00\x7d"),
     (0, b""),
@@ -32,8 +33,8 @@ fn is_connected(polled: &Bench<RunMonitor>, place: usize) -> Option<bool> {
     Some(state.connected)
 }
 
-/// The monitor stores a Modbus frame for the device to which the frame is sent, and returns the
-/// frame once.
+/// The monitor of `sunreg run` stores a Modbus frame for the device to which the frame is sent, and
+/// returns the frame once.
 #[test]
 fn frames_wait_for_their_device(rt: HostRuntime) {
     let mut polled = polled(&rt, rt.alloc(), &[STANDS]);
@@ -53,7 +54,8 @@ static ENDINGS: [(&[Moment], u64, u64); 2] = [
     (&[STANDS, (1006, Step::Tick), (1011, Step::Tick)], 0, 2),
 ];
 
-/// After the connection of a device has ended, the monitor drops the Modbus frames for the device.
+/// After the connection of a device has ended, the monitor of `sunreg run` drops the Modbus frames
+/// for the device.
 #[test]
 fn frames_of_an_ended_connection_are_dropped(rt: HostRuntime) {
     for (moments, lost, silent) in ENDINGS {
@@ -78,7 +80,8 @@ fn first_sum(polled: &Bench<RunMonitor>) -> Option<Sum> {
     Some(round.sum)
 }
 
-/// At the end of a polling round the monitor has counted the round's polls by outcome.
+/// At the end of a polling round the monitor of `sunreg run` has counted the round's polls by
+/// outcome.
 #[test]
 fn a_round_has_a_sum(rt: HostRuntime) {
     let polled = polled(&rt, rt.alloc(), &WRONG_UNIT);
@@ -96,8 +99,8 @@ const LINES: &str = "1700000000 inv connected
 1700000002 inv round answered 3 silent 1 failed 0
 ";
 
-/// The monitor writes a log line for a new connection, a refused event, the end of a connection,
-/// and the end of a polling round. The monitor writes no log line for a timer event.
+/// The monitor of `sunreg run` writes a log line for a new connection, a refused event, the end of
+/// a connection, and the end of a polling round. The monitor writes no log line for a timer event.
 #[test]
 fn lines_are_for_people(rt: HostRuntime) {
     let noted = Ok(Answer::Noted);

@@ -18,8 +18,8 @@ fn held(name: &[u8], number: u8) -> ReportedNumber {
     }
 }
 
-/// A refusal is reported once for each device. It is reported again after a different refusal, or
-/// after its first report was deleted from the list of reports.
+/// Tests that a refusal is reported once for each device. It is reported again after a different
+/// refusal of the device, or after its entry was deleted from the list of reported error numbers.
 #[test]
 fn a_number_is_reported_once_until_it_changes(rt: HostRuntime) {
     let mut reported = Reported::new(rt.alloc());

@@ -1,5 +1,5 @@
-//! Tests of a scan of a simulated device over a link that fails. `tests/stand_in.py` scans
-//! simulators over sockets.
+//! Tests of a scan of a simulated device over a link (the connection to the device) that fails.
+//! `tests/stand_in.py` scans simulators over sockets.
 use mb_wire::MemoryLink;
 use sun_chain::Model;
 use sun_chain::scans::{ScanFault, ScanObserver};
@@ -14,7 +14,7 @@ impl ScanObserver for Nobody {
 }
 
 // The responses of a device to the four reads of a scan. They contain the SunSpec mark, the head of
-// a model 103 with 50 Modbus registers, these registers, and the end model. The model's energy
+// a model 103 with 50 Modbus registers, the 50 registers, and the end model. The model's energy
 // counter shows 5000 at scale factor 0.
 const REPLIES: &[u8] = &[
     0, 1, 0, 0, 0, 7, 1, 3, 4, 83, 117, 110, 83, 0, 2, 0, 0, 0, 7, 1, 3, 4, 0, 103, 0, 50, 0, 3, 0,

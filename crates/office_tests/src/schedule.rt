@@ -9,8 +9,8 @@ fn a_device_is_due_at_multiples(rt: HostRuntime) {
         (60, 0, 60),
         (60, 59, 60),
         (60, 60, 120),
-        // Missed polls are not made up for. The next poll is due at the next multiple of the
-        // polling interval.
+        // Missed polls of a device are not made up for. The next poll is due at the next multiple
+        // of the polling interval.
         (60, 187, 240),
         (1, 41, 42),
         (900, 1_700_000_000, 1_700_000_100),
@@ -24,7 +24,7 @@ fn a_device_is_due_at_multiples(rt: HostRuntime) {
 }
 
 /// The pauses between attempts to connect to a device double, up to a minute. A pause never ends
-/// after the next time at which the device is due.
+/// after the next time at which a polling round of the device is due.
 #[test]
 fn pauses_grow(rt: HostRuntime) {
     let mut pause = 0;

@@ -11,7 +11,8 @@ use std::alloc::Global;
 use std::io;
 use std::process::Abort;
 
-// Processes an event, and prints the resulting notifications and the answer.
+// Processes an event, and prints the notifications (outcomes of polls, and readings) that it
+// caused, and the answer.
 fn feed<B: Books>(
     office: &mut Office<B>,
     at: u64,
@@ -77,7 +78,8 @@ pub(crate) fn print_event<B: Books>(
     output
 }
 
-/// Returns the text that is printed for a script line.
+/// Executes a line of a script (a text of timed events, commands and queries) on an office (the
+/// event engine). Returns the text that is printed for the line.
 pub(crate) fn print_line<B: Books>(
     rt: &impl Abort,
     alloc: Global,

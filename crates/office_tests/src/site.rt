@@ -83,8 +83,9 @@ fn a_site_is_reported_while_the_store_refuses_a_call(rt: HostRuntime) {
         let asked = try_failing(&rt, rt.alloc(), failing, Trial::Site);
         refused = refused.saturating_add(asked);
     }
-    // One call to the store is for the devices, two are for the accounting registers (named
-    // counters) of the two devices, and three are for the meters.
+    // The query for the accounting registers (named counters) of all devices makes six calls to the
+    // store. One is for the devices, two are for the registers of the two devices, and three are
+    // for the meters.
     assert!(rt; refused == 6);
 }
 

@@ -152,7 +152,8 @@ fn site() -> Option<[SiteRow; 4]> {
     ])
 }
 
-/// The metrics after the test's history of events have the expected text, with open meters only.
+/// The function `write_metrics` writes the expected metrics for the example devices and meters of
+/// this test. A closed meter does not appear in them.
 #[test]
 fn the_metrics_are_in_text_format(rt: HostRuntime) {
     let mut text = Vec::new(rt.alloc());

@@ -1,5 +1,5 @@
-//! Test steps that write records to a store, or look up results in it and compare them with the
-//! expected results.
+//! Test steps that write records to a store, or look up results in the store and compare them with
+//! the expected results.
 use crate::facts::{Booked, facts};
 use crate::offices::{name_of, planned};
 use energy_core::Cause;
@@ -20,7 +20,8 @@ pub(crate) enum Step {
     Lists(&'static [u8]),
     /// The plan of the device's point list has this number of Modbus reads.
     Reads(usize),
-    /// The device has this number of accounting registers (named counters).
+    /// A step of a test: asserts that the device has this number of accounting registers (named
+    /// counters).
     Registers(usize),
     /// A Modbus read of the device, by function, address and count, covers these accounting
     /// registers (named counters).
@@ -31,20 +32,22 @@ pub(crate) enum Step {
     /// The meter with this name has this energy in mWh. The last value is true if the meter is
     /// closed.
     Meter(&'static [u8], u64, bool),
-    /// The store has this number of installed meters.
+    /// A step of a test: asserts that the store has this number of installed meters.
     Meters(usize),
     /// The meter has an entry with this sequence number, and before this entry the meter has this
     /// energy in mWh. The last value is true if the entry is voided (cancelled).
     Entry(&'static [u8], u64, u64, bool),
-    /// A lookup with `entry_near` finds the meter's entry with this sequence number. The meter has
-    /// this count before the entry. The last number is the meter's total energy, in mWh.
+    /// A step of a test: asserts that `entry_near` finds the meter's entry with this sequence
+    /// number. The meter has this count before the entry. The last number is the meter's total
+    /// energy, in mWh.
     EntryNear(&'static [u8], u64, u32, u64),
     NoEntry(&'static [u8], u64),
     /// The rejected readings of a meter in a time span have these times and causes.
     Held(&'static [u8], Span, &'static [(u64, Cause)]),
     /// The store has this number of started polls.
     Started(u64),
-    /// The store has the poll with this number. The last value is true if the poll is pending.
+    /// A step of a test: asserts that the store has the poll with this number. The last value is
+    /// true if the poll is pending (without an outcome).
     Waits(u64, bool),
     /// The pending polls have these numbers.
     Pending(&'static [u64]),
@@ -132,7 +135,8 @@ fn is_entry(found: &Option<EntryContext>, total: u64, is_voided: bool) -> bool {
     }
 }
 
-// Returns true if a lookup with `entry_near` finds this meter entry with the meter's total energy.
+// Returns true if the lookup of a meter's entry together with its neighbors (`entry_near`) finds
+// the given entry and the meter's total energy.
 fn is_near<B: Books>(
     books: &mut B,
     meter: &Name,

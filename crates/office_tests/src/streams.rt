@@ -75,7 +75,8 @@ impl Kept {
     }
 
     /// Asserts that the writer received a prefix of the output, or the complete output if no call
-    /// failed. Also asserts that no call followed a failed call. Returns true if no call failed.
+    /// of the writer failed. Also asserts that no call followed a failed call. Returns true if no
+    /// call failed.
     pub(crate) fn assert_written(&self, rt: &impl Abort, output: &str) -> bool {
         let whole = self.calls < self.failing;
         assert!(rt; self.calls <= self.failing);
@@ -106,8 +107,8 @@ pub(crate) fn zone(rt: &impl Abort) -> Zone {
     Zone::read("UTC0").ok().expect(rt, "no zone")
 }
 
-/// Runs a script with `replay`. All tests share this call, because `replay` is generic over its
-/// streams.
+/// Runs a script (a text of commands, events and queries) with `replay`. All tests share this call,
+/// because `replay` is generic over its streams.
 pub(crate) fn run(
     rt: &impl Abort,
     alloc: Global,

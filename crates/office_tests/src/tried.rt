@@ -1,5 +1,5 @@
-//! Runs the tests that are generic over the store. Only this module runs them over a store in
-//! memory, because each such call takes seconds to prove.
+//! Runs the tests that are generic over the store. Only this module runs such tests over a store in
+//! memory, because each call of them takes seconds to prove.
 use crate::offices::books_failing_at;
 use crate::rounds::Ends;
 use crate::{
@@ -9,10 +9,11 @@ use office_books::Books;
 use std::alloc::Global;
 use std::process::Abort;
 
-/// A test that is generic over the store.
+/// A test that runs over any implementation of the store (the trait `Books`).
 #[derive(Clone, Copy)]
 pub(crate) enum Trial {
-    /// A script over a store that may fail.
+    /// The test that executes a script (a text of timed events and commands) over a store that may
+    /// fail.
     Script,
     /// A polling round over a store that fails at a chosen call.
     RefusedRound,
@@ -28,9 +29,10 @@ pub(crate) enum Trial {
     /// A polling round whose output writer accepts only this number of bytes, and the expected
     /// outcomes of its polls.
     Narrow(usize, Ends),
-    /// A polling round that ends only at the maximum number of reads from the link.
+    /// A polling round that reads from its link (the connection to the device) until the maximum
+    /// number of reads, and ends with the fault `TurnsUsed`.
     Takes,
-    /// Test steps over a store with a cache.
+    /// Test steps over a store with a cache of lookup results.
     Kept,
     /// A query for the accounting registers (named counters) of a Modbus read, by the read's index
     /// in a list of test cases.

@@ -1,5 +1,5 @@
-//! Tests how an event from a device (such as its response) is processed, together with the
-//! follow-up events that the polling rounds then generate.
+//! Tests how an event from a device (such as its response) is processed, together with the events
+//! that the polling rounds then generate.
 use crate::benches::{Bench, Moment, Step, play};
 use crate::observer::Seen;
 use crate::offices::new_books;
@@ -62,7 +62,7 @@ static TURNS: [(&[Moment], &str, usize); 7] = [
         "0C 0S 1C 1S 0Fl 1Ba 1S ",
         36,
     ),
-    // A device connects again after its connection failed.
+    // A test case for polling rounds: a device connects again after its connection failed.
     (
         &[
             (1001, Step::Stands(0)),
@@ -92,8 +92,8 @@ static TURNS: [(&[Moment], &str, usize); 7] = [
     ),
 ];
 
-/// A device event is processed first. Then the polling rounds generate follow-up events, such as
-/// the start of the next poll, and these are processed.
+/// A device event is processed first. Then the polling rounds generate further events, such as the
+/// start of the next poll, and these further events are processed.
 #[test]
 fn turns_feed_what_rounds_wish(rt: HostRuntime) {
     for (moments, text, frames) in TURNS {
@@ -103,7 +103,8 @@ fn turns_feed_what_rounds_wish(rt: HostRuntime) {
     }
 }
 
-// Returns the stage of the polling round of the device with this index.
+// Returns the stage of the polling round (such as waiting for responses) of the device with this
+// index.
 fn stage(bench: &Bench<Seen>, place: usize) -> Option<Stage> {
     let round = bench.rounds.get(place)?;
     Some(round.stage)

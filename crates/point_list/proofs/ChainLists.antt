@@ -1,4 +1,5 @@
--- Proves that the points of a chain of SunSpec models form a valid point list.
+-- Proves that the points of a chain of SunSpec models form a valid point list: their names are
+-- distinct, and each size, address and scale is valid.
 use Rattle.std.proofs.Common.{◌≡◌, ◌≢◌, ◌+◌, ◌≤◌, ◌<◌, ◌^◌, ◌∙◌, ℕ, zero, suc, Bool, true, false, IsTrue, List, [], ◌∷◌, ◌++◌, Some, None, Option, length, map, max, min, drop, get_or, take, refl, sym, ap, arith, inl, inr, subst, length-append, append_assoc, append-nil}
 use Rattle.std.specs.Prelude.{◌&&◌, ◌||◌, nat_le, not, if◌then◌else◌, IsSomeAnd, IfSome}
 use Rattle.std.specs.Char.{is_ascii_digit}
@@ -88,7 +89,8 @@ same-place place x y same =
     let names : 46 ∷ x ≡ 46 ∷ y = append_cancel_left (decimal place) (46 ∷ x) (46 ∷ y) tail in
     ap (λ (l : List ℕ). drop 1 l) names
 
--- Lemmas about lists of points from several SunSpec models.
+-- Lemmas: in one point list, each point of several SunSpec models has a valid name, size, address
+-- and scale. This includes the scale points (scale factors).
 
 bytes-apart : (a b : List ℕ) → a ≢ b → bytes_eq a b ≡ false
 bytes-apart a b other = elim (cases_Bool (bytes_eq a b)) [ inl same ↦ absurd (other ((bytes_eq-Decides a b).0 same)) | inr apart ↦ apart ]
@@ -104,8 +106,8 @@ both-all p q (x ∷ xs) hp hq =
     let kq = and-two (q x) (list_all q xs) hq in
     rw (kp.0, kq.0) (both-all p q xs kp.1 kq.1)
 
--- The properties of a valid row of a SunSpec model table. Each row describes one point of the
--- model.
+-- The properties of a valid row of a SunSpec model table, which describes one point: a short name,
+-- at least one register, an end within 125 registers, and a valid scale point.
 record GoodRow (rows : List Row) (row : Row) : Type 0 where
   short : is_short row.name ≡ true
   some : 1 ≤ registers_of row.ty
@@ -119,8 +121,8 @@ good-row rows row h =
     let c = and-two (is_short row.name) (nat_le 1 (registers_of row.ty)) b.0 in
     record { short = c.0; some = grind (arith, c.1); ends = grind (arith, b.1); scaled = a.1 }
 
--- True if a row of a SunSpec model table can have a scale point with this name. The name has at
--- most 20 bytes, each row with this name is a sunssf point, and the row's type may have a scale.
+-- True if a row of a SunSpec model table can have a scale point with the given name. The name has
+-- at most 20 bytes, each row with this name is a sunssf point, and the row's type may have a scale.
 abbrev IsScaleName : Row → List Row → List ℕ → Type 0
 IsScaleName row rows name = (is_short name ≡ true) × (takes_scale row.ty ≡ true) × (list_all (λ other. not (bytes_eq other.name name) || is_sunssf other.ty) rows ≡ true)
 
@@ -159,7 +161,8 @@ find-scale s (x ∷ xs) (suc k) within is distinct sunssf =
     let rest = find-scale s xs k (omega (arith, within)) is (λ i j d before below. distinct (suc i) (suc j) d (omega (arith, before)) (omega (arith, below))) sunssf in
     rw (other, and-no (is_sunssf x.kind)) rest
 
--- True if the point has a valid name, size, address and scale as an element of the list `all`.
+-- True if the point has a valid name, size, address and scale as an element of the point list
+-- `all`.
 pub record Keeps (all : List ListedPoint) (point : ListedPoint) : Type 0 where
   pub named : is_name point.name ≡ true
   pub some : 1 ≤ registers_of point.kind
@@ -201,8 +204,8 @@ sunssf-of name model q f same =
     let here : bytes_eq f.row.name name ≡ true = (bytes_eq-Decides f.row.name name).1 (sym f.name ∙ same) in
     ap is_sunssf f.kind ∙ (rw here at f.passes)
 
--- If the scale point (SunSpec scale factor) of a model's point was read, it is in the point list,
--- close enough for one read of both.
+-- If the scale point (SunSpec scale factor) of a model's point was read, the point list has the
+-- scale point. One Modbus read can cover the point and its scale point.
 scale-there : (all : List ListedPoint) → AllPairs (λ a b. a.name ≢ b.name) all → (word : Words) (place : ℕ) (model : Model)
     → ((s : ListedPoint) → Among s (model_points word place model) → Among s all)
     → (p : ModelPoint) → FromRow (is_good_row (table_of model.id)) model p → (name : List ℕ)
@@ -225,7 +228,8 @@ scale-there all distinct word place model sub p f name known good any =
     ap (λ (x : List ℕ). scale_point all (chain_name place x)) (sym same) ∙ find-scale s all a.place a.within a.is distinct (sunssf-of name model q n same) in
     rw found (group-of place model pts p q f g)
 
--- The scale of a SunSpec model's point is valid in the point list.
+-- The scale of a SunSpec model's point is valid in the point list: it is empty, or its scale point
+-- is in the list, close enough for one Modbus read.
 model-scale : (all : List ListedPoint) → AllPairs (λ a b. a.name ≢ b.name) all → (word : Words) (place : ℕ) (model : Model)
     → ((s : ListedPoint) → Among s (model_points word place model) → Among s all)
     → (p : ModelPoint) (f : FromRow (is_good_row (table_of model.id)) model p) (name : Option (List ℕ)) → IfSome name (IsScaleName f.row (table_of model.id))
@@ -260,7 +264,7 @@ keeps-of all distinct word place model few inside sub good p f =
       scaled = model-scale all distinct word place model sub p f (scale_name_in (table_of model.id) p.name) scale good;
     }
 
--- The points of a SunSpec model are valid elements of the point list.
+-- Each point of a SunSpec model has a valid name, size, address and scale in the point list.
 model-keeps : (all : List ListedPoint) → AllPairs (λ a b. a.name ≢ b.name) all → (word : Words) (place : ℕ) (model : Model) → place ≤ 64 → next_after model ≤ 65536
     → ((s : ListedPoint) → Among s (model_points word place model) → Among s all) → All (Keeps all) (model_points word place model)
 model-keeps all distinct word place model few inside sub =
@@ -335,7 +339,8 @@ distinct-from word place (model ∷ models) few =
     let b = later j e within in
     other-places place b.at a.0 b.rest (omega (arith, small)) (omega (arith, b.high)) (omega (arith, b.low)) (sym a.1 ∙ same ∙ b.is))
 
--- The points of at most 64 SunSpec models form a valid point list, if there are at most 512 points.
+-- The points of at most 64 SunSpec models form a valid point list (distinct names, valid scales),
+-- if there are at most 512 points.
 pub chain-list : (word : Words) (models : List Model) → length models ≤ 64 → All (λ model. next_after model ≤ 65536) models → length (points_from word 1 models) ≤ 512
     → IsPointList (points_from word 1 models)
 chain-list word models few inside size =

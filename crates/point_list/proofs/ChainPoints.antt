@@ -1,4 +1,5 @@
--- Lemmas about the points of a SunSpec model and their rows in the model tables.
+-- Lemmas: each point of a SunSpec model comes from a row of the model's table, and rows with
+-- distinct names give points with distinct names.
 use Rattle.std.proofs.Common.{◌≡◌, ◌≢◌, ◌+◌, ◌≤◌, ◌∙◌, ℕ, zero, suc, Bool, true, false, List, [], ◌∷◌, Some, None, Option, filter_map, refl, arith}
 use Rattle.std.specs.Prelude.{◌&&◌, nat_le, not}
 use Rattle.std.specs.List.{All, AllPairs, list_all}

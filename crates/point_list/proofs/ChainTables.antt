@@ -15,8 +15,8 @@ use Rattle.point_list.specs.Points.{is_sunssf, takes_scale}
 abbrev pub is_short : List ℕ → Bool
 is_short name = nat_le (length name) 20 && list_all is_name_byte name
 
--- True if a row of a SunSpec model table can have a scale point with this name. The name has at
--- most 20 bytes, each row with this name is a sunssf point, and the row's type may have a scale.
+-- True if a row of a SunSpec model table can have a scale point with the given name. The name has
+-- at most 20 bytes, each row with this name is a sunssf point, and the row's type may have a scale.
 abbrev pub is_scaled_by : List Row → Row → List ℕ → Bool
 is_scaled_by rows row name = is_short name && takes_scale row.ty && list_all (λ other. not (bytes_eq other.name name) || is_sunssf other.ty) rows
 

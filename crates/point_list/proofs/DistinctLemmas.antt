@@ -1,4 +1,4 @@
--- Lemmas about distinct names of the points in a list, checked one point at a time.
+-- Lemmas for the check, one point at a time, that the points in a list have distinct names.
 use Rattle.std.proofs.Common.{◌≡◌, ◌≢◌, ◌∙◌, ℕ, ◌+◌, ◌<◌, List, [], ◌∷◌, ◌++◌, length, get_or, take, sym, ap, arith}
 use Rattle.std.specs.List.{All, AllPairs}
 use Rattle.std.proofs.lemmas.List.{get_or-take, get_or_default, length-take-le, take_more}
@@ -6,7 +6,7 @@ use Rattle.std.proofs.lemmas.List.Quantifiers.{all_pairs_push}
 use Rattle.point_list.specs.declared.point.ListedPoint.{ListedPoint}
 
 -- Suppose that a point is appended to a list of points with distinct names. If no point of the list
--- has its name, the names stay distinct.
+-- has the name of the new point, the names stay distinct.
 pub distinct-more : (points : List ListedPoint) (i : ℕ) (x : ListedPoint) → i < length points → x ≡ get_or points i x
     → AllPairs (λ a b. a.name ≢ b.name) (take i points) → All (λ p. p.name ≢ x.name) (take i points) → AllPairs (λ a b. a.name ≢ b.name) (take (i + 1) points)
 distinct-more points i x within is pairs other =

@@ -1,5 +1,5 @@
--- Checks the definitions of valid point lists at each limit: the last valid value and the first
--- invalid value.
+-- Checks the definitions of valid point lists at each limit, with the last valid value and the
+-- first invalid value.
 use Rattle.std.proofs.Common.{◌≡◌, ℕ, pos, negsuc, true, false, List, [], ◌∷◌, replicate, Some, None, refl}
 use Rattle.std.specs.Prelude.{codes}
 use Rattle.mb_wire.specs.declared.span.ReadFunction.TheVariants.{HoldingRegisters}
@@ -33,7 +33,7 @@ name_too_long = refl
 digit_first : is_name (codes "1A") ≡ false
 digit_first = refl
 
--- Examples of the limits of the numbers in the fields of a point list's row.
+-- Examples of the greatest and least numbers that the fields of a point list's row may have.
 
 last_address : number_within 0 65535 (codes "65535") ≡ Some 65535
 last_address = refl

@@ -152,7 +152,8 @@ apart rows i j a b before within ka kb same =
     list_any-from_Any (has_name kb.row.name) (take j rows) (i, get_or (take j rows) i [], omega (arith, size, before), get_or_default (take j rows) i (get_or (take j rows) i []) [] (omega (arith, size, before)), has) in
     absurd (cc (sym any ∙ kb.lacking.untaken))
 
--- The points of CSV rows without faults form a valid point list.
+-- The points of CSV rows without faults form a valid point list: their names are distinct, and each
+-- size, address and scale is valid.
 pub lawful : (rows : List (List (List ℕ))) (points : List ListedPoint) → ((k : ℕ) → k < length rows → row_fault rows k ≡ None) → SpellEach rows points
     → All (λ point. scale_fault points point point.scale ≡ None) points → IsPointList points
 lawful rows points none each scaled =
@@ -199,8 +200,8 @@ below-faults rows n reported size is none =
     ap (λ (faults : List FaultyRow). or_else faults (faulty_rows 2 (scale_faults (points_of rows) (points_of rows)))) nothing
 
 -- Suppose that no row of a point list (CSV) has a fault, apart from faults of scale points. If a
--- list is created from the rows' points, the rows encode this list. Otherwise the error explains
--- why the rows encode no list.
+-- list is created from the rows' points, the rows encode this list. If creating the list fails, the
+-- error explains why the rows encode no list.
 pub below-list : (rows : List (List (List ℕ))) (n : ℕ) (reported : List FaultyRow) (points : List ListedPoint) (result : Result (List ListedPoint) ListFault) → length rows ≡ n
     → reported ≡ faulty_rows 2 (row_faults rows n) → reported ≡ [] → points ≡ points_of rows
     → IfOk result (λ list. (list ≡ points) × (faulty_rows 2 (scale_faults points points) ≡ [])) → IfErr result (ExplainsList (faulty_rows 2 (scale_faults points points)))

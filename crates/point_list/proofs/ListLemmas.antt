@@ -35,8 +35,8 @@ row-more rows n =
     ap (λ (k : ℕ). faulty_rows 2 (row_faults rows k)) (add-one n) ∙ faulty-push 2 (row_faults rows n) (row_fault rows n)
     ∙ ap (λ (r : ℕ). faulty_rows 2 (row_faults rows n) ++ faulty_rows r (row_fault rows n ∷ [])) size
 
--- The faulty rows among `n + 1` points are those among the first `n` points, and the last point's
--- row if its scale has a fault.
+-- The rows with a faulty scale among the first `n + 1` points are those among the first `n` points,
+-- and the last point's row if its scale has a fault.
 pub scale-more : (points : List ListedPoint) (n : ℕ) (x : ListedPoint) → n < length points → x ≡ get_or points n x
     → faulty_rows 2 (scale_faults points (take (n + 1) points))
     ≡ faulty_rows 2 (scale_faults points (take n points)) ++ faulty_rows (n + 2) (scale_fault points x x.scale ∷ [])

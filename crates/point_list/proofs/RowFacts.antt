@@ -1,4 +1,4 @@
--- Proves that the rows that the CSV reader returns are the first records of a text.
+-- Proves that the rows that the CSV reader returns are the first records of the text that it reads.
 use Rattle.std.specs.Prelude.{◌==◌, Bool, true, false, zero, suc}
 use Rattle.std.proofs.Common.{◌≡◌, ◌≤◌, ◌<◌, ◌+◌, ◌-◌, ◌∙◌, ℕ, List, [], ◌∷◌, ◌++◌, Some, None, length, take, refl, sym, ap, arith, inl, inr, zero-add}
 use Rattle.std.proofs.lemmas.Bool.{cases_Bool}
@@ -113,7 +113,7 @@ unfolding records_from
 none-left zero s ys h = refl
 none-left (suc k) s ys h = rw h refl
 
--- The CSV rows that were read until now are the first records of the text.
+-- The CSV rows that the reader has read so far are the first records of the text.
 pub rows-begin : (s2 : State) (xs ys : List ℕ) (rows : List (List (List ℕ))) → Reached default_config st.StartRecord xs rows s2 ys
     → (more : List (List (List ℕ))) × (records default_config xs ≡ rows ++ more) × (next_record default_config s2 [] [] ys ≡ None → more ≡ [])
 rows-begin s2 xs ys rows h =

@@ -1,10 +1,11 @@
--- Lemmas about reading the six fields of a point list's row one by one.
+-- Lemmas: reading a point list's row returns its six fields in order if the row has exactly six
+-- fields, otherwise `None`.
 use Rattle.std.proofs.Common.{◌≡◌, ◌<◌, ℕ, zero, suc, List, [], ◌∷◌, Some, None, length, refl, arith}
 use Rattle.std.proofs.lemmas.Option.{same_Some}
 use Rattle.csv.specs.Records.{field_at}
 use Rattle.point_list.specs.Faults.{six_fields}
 
--- A row has a field at each index below its number of fields.
+-- A row of a point list has a field at each index below its number of fields.
 pub field-there : (fields : List (List ℕ)) (i : ℕ) → i < length fields → field_at fields i ≡ None → ⊥
 unfolding field_at
 field-there [] i within e = omega (arith, within)

@@ -15,7 +15,9 @@ use Rattle.point_list.specs.Faults.{RowText, conditions_where, first_of, is_bad_
 use Rattle.point_list.specs.Fields.{fixed_scale_of, function_of, minus, number_of, number_within, text_type_of, type_of}
 use Rattle.point_list.specs.Names.{is_name}
 
--- The properties of the six fields of a point list's row, if the fields have no fault.
+-- States that the six fields of a point list's row have none of the faults for which a row is
+-- rejected: an invalid name, function, area, address, type or scale. The name is new, and the row
+-- is one of the first 512.
 pub record Sound (taken : Bool) (place : ℕ) (row : RowText) : Type 0 where
   pub name : not (is_name row.name) ≡ false
   pub untaken : taken ≡ false

@@ -20,7 +20,8 @@ Suits kind Unscaled = Unit {0}
 Suits kind (Fixed exponent) = IsTrue (takes_scale kind) × IsTrue (int_le (negsuc 9) exponent && int_le exponent (pos 10))
 Suits kind (Named name) = IsTrue (takes_scale kind)
 
--- The properties of the point that the six fields of a row encode.
+-- The point that the six fields of a point list's row encode, with its properties: a valid name, 1
+-- to 125 registers, addresses below 65,536, and a scale that suits the point type.
 pub record Spelled (row : RowText) (point : ListedPoint) : Type 0 where
   pub spells : point_spelled row ≡ Some point
   pub name : point.name ≡ row.name

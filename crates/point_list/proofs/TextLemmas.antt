@@ -1,4 +1,5 @@
--- Relates the rows of a CSV text that were read to all rows of the text.
+-- Proves that `read_list` reads at most the first 514 rows of a CSV text, and that these rows
+-- determine the point list that the text encodes.
 use Rattle.std.proofs.Common.{◌≡◌, ◌≤◌, ◌<◌, ◌∙◌, ℕ, suc, true, List, [], ◌∷◌, length, map, min, take, drop, refl, sym, ap, arith, subst}
 use Rattle.std.proofs.lemmas.Grind.{common_steps}
 use Rattle.std.proofs.lemmas.List.{length-map, take_all}

@@ -90,7 +90,8 @@ fixed-good : (field : List ℕ) (exponent : ℤ) → fixed_scale_of field ≡ So
 fixed-good [] exponent h = absurd (cc h)
 fixed-good (first ∷ rest) exponent h = (rw h refl, λ kind takes. rw (h, takes) refl)
 
--- A field of digits whose value is at most 10 encodes this value as a fixed scale.
+-- A CSV field of digits whose value is at most 10 encodes this value as a point's fixed scale (a
+-- power of ten).
 from-zero : (field : List ℕ) (n : ℕ) → 0 < length field → list_all is_ascii_digit field ≡ true → number_within 0 10 field ≡ Some n → fixed_scale_of field ≡ Some (pos n)
 from-zero [] n some digits h = absurd (omega (arith, some))
 from-zero (first ∷ rest) n some digits h =

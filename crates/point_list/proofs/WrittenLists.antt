@@ -1,4 +1,4 @@
--- Proves that the CSV text of a written point list has no faults and encodes the same list.
+-- Proves that the CSV text that is written for a point list has no faults and encodes this list.
 use Rattle.std.proofs.Common.{◌≡◌, ◌≢◌, ◌+◌, ◌≤◌, ◌<◌, ◌∙◌, ℕ, zero, suc, Bool, true, false, IsTrue, List, [], ◌∷◌, Some, None, Option, length, map, max, min, take, drop, get_or, refl, ap, arith, inl, inr, subst}
 use Rattle.std.specs.Prelude.{nat_le, nat_lt, ◌==◌, is_some, IsSomeAnd}
 use Rattle.std.specs.Prelude.{IfOk, OnOk, Ok, Err}
@@ -43,7 +43,8 @@ text_of point = record {
   scale = scale_text point.scale;
 }
 
--- True if the point is valid on its own, regardless of the other points of the list.
+-- True if the point's name, size, address, area number and scale are valid on their own, regardless
+-- of the other points of the list. No Modbus read has points of two areas.
 pub record Alone (point : ListedPoint) : Type 0 where
   pub named : is_name point.name ≡ true
   pub some : 1 ≤ registers_of point.kind
@@ -109,7 +110,7 @@ untaken points place d below distinct =
     ∙ list_any-map row_of (has_name x.name) (take place points)
     ∙ list_any_none (λ (point : ListedPoint). has_name x.name (row_of point)) (take place points) (λ k e within. bytes-other (get_or (take place points) k e).name x.name (other k e within))
 
--- No row of a written point list has a fault.
+-- No row of the CSV text that is written for a point list has a fault.
 pub written-none : (points : List ListedPoint) → length points ≤ 512 → AllPairs (λ a b. a.name ≢ b.name) points → All Alone points → (d : ListedPoint)
     → (k : ℕ) → k < length points → row_fault (map row_of points) k ≡ None
 written-none points few distinct each d k below =
@@ -166,7 +167,8 @@ suits-of points point Unscaled h = tt
 suits-of points point (Fixed exponent) h = h
 suits-of points point (Named name) h = h.0
 
--- The name of a scale point (SunSpec scale factor) in the list is a valid name.
+-- If each point of a list has a valid name, and the list has a scale point (SunSpec scale factor)
+-- with a given name, then this name is valid.
 found-named : (name : List ℕ) (points : List ListedPoint) → All (λ p. IsTrue (is_name p.name)) points → IsTrue (is_some (scale_point points name)) → is_name name ≡ true
 found-named name [] named h = absurd (cc h)
 found-named name (p ∷ ps) named h = by (is_sunssf p.kind) (bytes_eq p.name name) refl refl (λ rest. found-named name ps (λ k d below. named (suc k) d (omega (arith, below))) rest)
@@ -204,7 +206,7 @@ some-point : (points : List ListedPoint) (k : ℕ) → k < length points → Lis
 some-point [] k below = absurd (omega (arith, below))
 some-point (p ∷ ps) k below = p
 
--- No row below the header of a written point list is faulty.
+-- In the CSV text that is written for a valid point list, no row below the header is faulty.
 written-faultless : (points : List ListedPoint) → IsPointList points → All Alone points → faults_below (map row_of points) ≡ []
 written-faultless points l each =
     let rows = map row_of points in

@@ -1,4 +1,4 @@
--- Lemmas about the rows of a written CSV text.
+-- Lemmas: reading the CSV text that was written for a list of rows returns these rows.
 use Rattle.std.proofs.Common.{◌≡◌, ◌∙◌, ℕ, List, [], ◌∷◌, ◌++◌, None, map, refl, sym, ap, append_assoc}
 use Rattle.std.proofs.lemmas.List.{append-nil}
 use Rattle.csv.proofs.RoundTrip.{read-write}
@@ -10,8 +10,8 @@ use Rattle.point_list.specs.Rows.{csv_rows}
 use Rattle.point_list.specs.RowTexts.{header_row, rows_text}
 use Rattle.point_list.proofs.RowFacts.{rows-begin}
 
--- If one more row is appended, the CSV text of the rows is the earlier text followed by the text of
--- the new row.
+-- If a row is appended to a list of rows, the new list's CSV text is the old list's CSV text
+-- followed by the row's text.
 pub rows_text-push : (xs : List (List (List ℕ))) (y : List (List ℕ)) → rows_text (xs ++ (y ∷ [])) ≡ rows_text xs ++ row_text default_writer y
 unfolding rows_text
 rows_text-push [] y = append-nil (row_text default_writer y)
@@ -29,7 +29,7 @@ at-end : next_record default_config st.StartRecord [] [] [] ≡ None
 unfolding next_record
 at-end = refl
 
--- The records of a written CSV text are the written rows.
+-- The records of a CSV text that was written for some rows are these rows.
 pub written-read : (rows : List (List (List ℕ))) → records default_config (rows_text rows) ≡ map read_back rows
 written-read rows =
     let b = rows-begin st.StartRecord (rows_text rows) [] (map read_back rows) (written-reached rows) in
@@ -40,6 +40,6 @@ no-mark : (rows : List (List (List ℕ))) → strip_bom (rows_text (header_row �
 unfolding strip_bom fields_text is_blank rows_text
 no-mark rows = refl
 
--- Reading a written CSV text returns the header and the rows below it.
+-- Reading a CSV text that was written for a header and some rows returns the header and these rows.
 pub written-rows : (rows : List (List (List ℕ))) → csv_rows (rows_text (header_row ∷ rows)) ≡ header_row ∷ map read_back rows
 written-rows rows = ap (λ (text : List ℕ). records default_config text) (no-mark rows) ∙ written-read (header_row ∷ rows)

@@ -1,4 +1,4 @@
--- Defines the point list (the registers to poll) that follows from a device's chain of SunSpec
+-- Defines the point list (the registers to poll) that is computed from a device's chain of SunSpec
 -- models.
 use Rattle.std.specs.Prelude.{ℕ, ◌+◌, nat_le, if◌then◌else◌, List, [], ◌∷◌, ◌++◌, length, map, codes, Some, None, IfSome, IsTrue}
 use Rattle.std.specs.declared.option.Option.{Option}
@@ -27,8 +27,9 @@ use Rattle.mb_wire.specs.declared.span.ReadFunction.TheVariants.{HoldingRegister
 abbrev pub chain_name : ℕ → List ℕ → List ℕ
 chain_name place name = codes "m" ++ (decimal place ++ (codes "." ++ name))
 
--- The scale of a point of the SunSpec model with the given number: the scale factor point with this
--- name if it was read, otherwise `Unscaled`.
+-- The scale of a point of the SunSpec model with the given number. It is the scale factor point
+-- with the given name, or `Unscaled` if the point has no such name or the scale factor point was
+-- not read.
 abbrev pub chain_scale : ℕ → List ModelPoint → Option (List ℕ) → PointScale
 chain_scale place others None = Unscaled
 chain_scale place others (Some name) =

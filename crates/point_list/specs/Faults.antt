@@ -45,7 +45,7 @@ six_fields (a ∷ b ∷ c ∷ d ∷ e ∷ f ∷ []) =
     Some (record { name = a; function = b; area = c; address = d; kind = e; scale = f })
 six_fields _ = None
 
--- True if a row of a point list has six fields and the first field equals this name.
+-- True if a row of a point list has six fields and the first field equals the given name.
 abbrev pub has_name : List ℕ → List (List ℕ) → Bool
 has_name name fields = option_map_or (λ row. bytes_eq row.name name) (six_fields fields) false
 
@@ -59,7 +59,7 @@ abbrev pub reaches_past : Option ℕ → Option PointType → Bool
 reaches_past (Some address) (Some kind) = nat_lt ADDRESSES (address + registers_of kind)
 reaches_past _ _ = false
 
--- True if a field of a row is a scale from -10 to 10.
+-- True if a field of a point list's row encodes a fixed scale, a number from -10 to 10.
 abbrev pub is_fixed_scale : List ℕ → Bool
 is_fixed_scale field = is_some (fixed_scale_of field)
 
@@ -71,7 +71,8 @@ is_bad_scale (first ∷ rest) kind =
     not (is_fixed_scale (first ∷ rest) || is_name (first ∷ rest))
     || option_map_or (λ k. not (takes_scale k)) kind false
 
--- The first fault in the list whose condition is true, or `None`.
+-- The first fault whose condition is true, in a list of faults with their conditions. `None` if no
+-- condition is true.
 abbrev pub first_of : List (RowFault × Bool) → Option RowFault
 first_of [] = None
 first_of (fault ∷ faults) = if fault.1 then Some fault.0 else first_of faults
@@ -94,13 +95,13 @@ conditions_where taken place row =
     ∷ (TooMany, nat_le POINT_LIMIT place)
     ∷ []
 
--- Each fault of a point list's row with its condition, for a row of six fields after the earlier
--- rows.
+-- Each fault of a point list's row with its condition, for a row of six fields. `earlier` has the
+-- rows before it.
 abbrev pub conditions : ℕ → List (List (List ℕ)) → RowText → List (RowFault × Bool)
 conditions place earlier row = conditions_where (list_any (has_name row.name) earlier) place row
 
--- The first fault of a point list's row after the earlier rows, or `None`. Faults of the row's
--- scale point (SunSpec scale factor) are not considered.
+-- The first fault of a point list's row, or `None`. `earlier` has the rows before it. Faults of the
+-- row's scale point (SunSpec scale factor) are not considered.
 abbrev pub least_fault : ℕ → List (List (List ℕ)) → List (List ℕ) → Option RowFault
 least_fault place earlier fields =
     option_map_or (λ row. first_of (conditions place earlier row)) (six_fields fields) (Some Csv)

@@ -20,13 +20,14 @@ abbrev pub number_within : ℕ → ℕ → List ℕ → Option ℕ
 number_within low high field =
     option_and_then (λ n. if nat_le low n && nat_le n high then Some n else None) (number_of field)
 
--- The read function with this Modbus function code: 3 reads holding registers, 4 reads input
+-- The read function with the given Modbus function code: 3 reads holding registers, 4 reads input
 -- registers. `None` for any other code.
 abbrev pub function_coded : ℕ → Option ReadFunction
 function_coded n =
     if n == 3 then Some HoldingRegisters else if n == 4 then Some InputRegisters else None
 
--- The Modbus read function that a field encodes, or `None`.
+-- The Modbus read function that a field of a point list's row encodes, or `None` if the field
+-- encodes none.
 abbrev pub function_of : List ℕ → Option ReadFunction
 function_of field = option_and_then function_coded (number_of field)
 
@@ -38,7 +39,8 @@ text_type_of field =
     then option_and_then (λ n. Some (kind.Text n))
     (number_within 1 MAX_READ_REGISTERS (drop 6 field)) else None
 
--- The SunSpec point type that a field encodes, or `None`.
+-- The SunSpec point type that a field of a point list's row encodes, or `None` if the field encodes
+-- none.
 abbrev pub type_of : List ℕ → Option PointType
 type_of field =
     if bytes_eq field (codes "int16") then Some kind.Int16

@@ -1,4 +1,4 @@
--- The statements of the theorems about point lists and their texts.
+-- The statements of the theorems about point lists and the CSV texts that encode them.
 use Rattle.std.specs.Prelude.{ℕ, ◌≡◌, List, []}
 use Rattle.point_list.specs.declared.point.ListedPoint.{ListedPoint}
 use Rattle.point_list.specs.Lists.{SpellsList, list_faults, rows_read}
@@ -14,7 +14,8 @@ abbrev pub SpelledListIsOne : Type 0
 SpelledListIsOne = (text : List ℕ) (points others : List ListedPoint) → SpellsList text points
     → SpellsList text others → points ≡ others
 
--- The statement that each point list that a CSV text encodes is valid.
+-- The statement that each point list that a CSV text encodes is valid: distinct names, and valid
+-- sizes, addresses and scales.
 abbrev pub SpelledListsAreLawful : Type 0
 SpelledListsAreLawful = (text : List ℕ) (points : List ListedPoint) → SpellsList text points
     → IsPointList points

@@ -5,8 +5,9 @@ use Rattle.std.specs.declared.result.Result.{Result}
 use Rattle.point_list.specs.declared.list_writer.WriteListFault.{WriteListFault}
 use Rattle.point_list.specs.declared.list_writer.WriteListFault.TheVariants.{Write, Memory}
 
--- The effect of `write_list`: the sink receives the text in one call, and `Write` reports that the
--- call failed. `Memory` reports too little memory for the text, and leaves the sink unchanged.
+-- The effect of `write_list`, which writes a point list: the sink receives the text in one call.
+-- The fault `Write` reports that this call failed. The fault `Memory` reports too little memory for
+-- the text, and leaves the sink unchanged.
 abbrev pub HandsOver : {S : Type 0} → (S → List ℕ → Result (Unit {0}) Error → S → Type 0)
     → Result (Unit {0}) WriteListFault → List ℕ → S → S → Type 0
 HandsOver takes (Ok done) text old new = takes old text (Ok done) new

@@ -1,4 +1,4 @@
--- Defines the point list that the rows of a CSV text encode, and the faulty rows of a text.
+-- Defines the point list that the rows of a CSV text encode, and the faulty rows of such a text.
 use Rattle.std.specs.Prelude.{ℕ, zero, suc, ◌≡◌, ◌≢◌, ◌+◌, Bool, false, ◌==◌, nat_le, ◌&&◌, if◌then◌else◌, List, [], ◌∷◌, ◌++◌, length, map, take, drop, max, min, slice_index_or, codes, Some, None}
 use Rattle.std.specs.declared.option.Option.{Option}
 use Rattle.std.specs.List.{flat_map}
@@ -37,8 +37,8 @@ scale_spelled (first ∷ rest) =
 abbrev pub name_spelled : List ℕ → Option (List ℕ)
 name_spelled field = if is_name field then Some field else None
 
--- The point with this name, this scale, and the other four fields of a row. `None` if a field is
--- invalid.
+-- The point with the given name, the given scale, and the other four fields of a row. `None` if a
+-- field is invalid.
 abbrev pub spelled_with : Option (List ℕ) → Option PointScale → RowText → Option ListedPoint
 spelled_with spelled scaled row =
     option_and_then (λ name.
@@ -77,7 +77,7 @@ abbrev pub row_fault : List (List (List ℕ)) → ℕ → Option RowFault
 row_fault rows place = least_fault place (take place rows) (slice_index_or rows place [])
 
 -- The first fault (or `None`) of each of the first rows below the header of a point list. The
--- second argument is the number of these rows.
+-- second argument is how many rows are checked.
 abbrev pub row_faults : List (List (List ℕ)) → ℕ → List (Option RowFault)
 row_faults rows zero = []
 row_faults rows (suc n) = row_faults rows n ++ (row_fault rows n ∷ [])
@@ -90,8 +90,8 @@ is_one_group point scale =
     && nat_le (max (end_of point) (end_of scale))
     (min point.address scale.address + MAX_READ_REGISTERS)
 
--- The fault of a point with this scale point (SunSpec scale factor), or `None`. The scale point is
--- `None` if the list has no point with its name.
+-- The fault of a point with the given scale point (SunSpec scale factor), or `None`. The scale
+-- point is `None` if the list has no point with the scale point's name.
 abbrev pub group_fault : ListedPoint → Option ListedPoint → Option RowFault
 group_fault point None = Some NoSuchScale
 group_fault point (Some scale) = if is_one_group point scale then None else Some GroupTooWide
@@ -101,8 +101,8 @@ abbrev pub scale_fault : List ListedPoint → ListedPoint → PointScale → Opt
 scale_fault points point (Named name) = group_fault point (scale_point points name)
 scale_fault points point _ = None
 
--- The fault of the scale (or `None`) of each point of the second list. The first list has all
--- points of the point list.
+-- For each point in the list `some`, the fault of its scale, or `None`. `points` has all points of
+-- the point list, among which each scale point is searched by its name.
 abbrev pub scale_faults : List ListedPoint → List ListedPoint → List (Option RowFault)
 scale_faults points some = map (λ point. scale_fault points point point.scale) some
 
@@ -133,7 +133,8 @@ faulty_points points = faulty_rows 2 (scale_faults points points)
 abbrev pub faults_below : List (List (List ℕ)) → List FaultyRow
 faults_below rows = or_else (faulty_first rows (length rows)) (faulty_points (points_of rows))
 
--- True if the fields are the header `name,function,area,address,type,scale`.
+-- True if the six fields of a row are the header of a point list:
+-- `name,function,area,address,type,scale`.
 abbrev pub is_header_text : RowText → Bool
 is_header_text row =
     bytes_eq row.name (codes "name") && bytes_eq row.function (codes "function")
@@ -145,12 +146,13 @@ is_header_text row =
 abbrev pub is_header : List (List ℕ) → Bool
 is_header fields = option_map_or is_header_text (six_fields fields) false
 
--- The faulty rows of a point list's text without a valid header: only row 1, with the fault
+-- The faulty rows of a point list's text that has no valid header: only row 1, with the fault
 -- `Header`.
 abbrev pub no_header : List FaultyRow
 no_header = record { row = 1; fault = Header } ∷ []
 
--- The faulty rows of a point list's text. If the header is wrong, only the header is reported.
+-- The faulty rows of a point list's text. If the header is wrong, only the header's row is
+-- reported.
 abbrev pub list_faults : List (List (List ℕ)) → List FaultyRow
 list_faults [] = no_header
 list_faults (header ∷ rows) = if is_header header then faults_below rows else no_header
@@ -163,8 +165,8 @@ rows_read text = take ROW_LIMIT (csv_rows text)
 abbrev pub SpellEach : List (List (List ℕ)) → List ListedPoint → Type 0
 SpellEach rows points = map point_of_row rows ≡ map (λ point. Some point) points
 
--- True if no row below the header of a point list is faulty and each row encodes the point with the
--- same index.
+-- True if no CSV row below the header of a point list is faulty, and each row encodes the element
+-- of `points` with the same index.
 abbrev pub SpellsBelow : List (List (List ℕ)) → List ListedPoint → Type 0
 SpellsBelow rows points = (faults_below rows ≡ []) × SpellEach rows points
 
@@ -179,8 +181,8 @@ pub record SpellsList (text : List ℕ) (points : List ListedPoint) : Type 0 whe
 abbrev pub AreFaults : List FaultyRow → List FaultyRow → Type 0
 AreFaults faulty reported = (reported ≡ faulty) × (reported ≢ [])
 
--- True if this fault explains why a CSV text with these faulty rows is no point list. Lack of
--- memory may occur with any text.
+-- True if the fault explains why a CSV text with the given faulty rows is no point list. The fault
+-- that memory ran out may occur with any text.
 abbrev pub ExplainsList : List FaultyRow → ListFault → Type 0
 ExplainsList faulty Memory = Unit {0}
 ExplainsList faulty (Faults reported) = AreFaults faulty reported

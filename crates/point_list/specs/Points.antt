@@ -18,7 +18,7 @@ abbrev pub is_sunssf : PointType → Bool
 is_sunssf kind.Sunssf = true
 is_sunssf _ = false
 
--- True if points of this type may have a scale.
+-- True if points of this SunSpec type may have a scale (a power of ten).
 abbrev pub takes_scale : PointType → Bool
 takes_scale kind.Int16 = true
 takes_scale kind.Uint16 = true
@@ -31,7 +31,8 @@ takes_scale _ = false
 abbrev pub end_of : ListedPoint → ℕ
 end_of point = point.address + registers_of point.kind
 
--- The point of the list with this name and the type `sunssf` (SunSpec scale factor), or `None`.
+-- The point of a point list with the given name and the type `sunssf` (SunSpec scale factor), or
+-- `None` if the list has no such point.
 abbrev pub scale_point : List ListedPoint → List ℕ → Option ListedPoint
 scale_point points name = find (λ point. is_sunssf point.kind && bytes_eq point.name name) points
 

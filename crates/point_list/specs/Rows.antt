@@ -1,4 +1,4 @@
--- Defines the rows of a point list, as the crate `csv` reads them.
+-- Defines the rows of a point list's CSV text, as the crate `csv` reads them.
 use Rattle.std.specs.Prelude.{ℕ, List}
 use Rattle.csv.specs.Reading.{default_config, records, strip_bom}
 

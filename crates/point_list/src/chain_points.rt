@@ -159,9 +159,9 @@ fn too_many(alloc: Global) -> Result<FaultyRows, AllocError>
 
 /// Returns the point list of all points of a chain's SunSpec models that were read, model by model.
 /// The list includes points without a value (`Absent`). A point is named `m`, the model's number in
-/// the chain from 1, `.` and the point's name in the model. A point is read with function 3. Its
-/// scale is the name of its scale point (scale factor), or empty if the scale point was not read.
-/// More than 512 points are the fault `TooMany` on row 514.
+/// the chain from 1, `.` and the point's name in the model. A point is read with function 3. The
+/// scale of a point is the name of its scale point (scale factor), or empty if the scale point was
+/// not read. More than 512 points are the fault `TooMany` on row 514.
 pub fn from_chain(alloc: Global, chain: &Chain<'_>) -> Result<PointList, ListFault>
     ensures list { IfOk result (λ list. list ≡ points_of_chain chain.now) }
     ensures faults { IfErr result (ExplainsList (chain_faults (points_of_chain chain.now))) }

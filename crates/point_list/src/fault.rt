@@ -7,8 +7,9 @@ use std::fmt;
 use std::fmt::{Display, Formatter};
 use std::marker::Model;
 
-/// The reason why a row of a point list is invalid, in the order of the checks. `NoSuchScale` and
-/// `GroupTooWide` are checked last, and only if no row has another fault.
+/// The reason why a row of a point list is invalid, in the order of the checks. The faults of scale
+/// points, `NoSuchScale` and `GroupTooWide`, are checked last, and only if no row has another
+/// fault.
 #[derive(Clone, Copy, Debug, PartialEq, Eq)]
 pub enum RowFault {
     /// The row of the point list does not have six fields.
@@ -28,13 +29,13 @@ pub enum RowFault {
     Address,
     /// The type of the point is not a SunSpec point type.
     Type,
-    /// The scale of the point is not empty, -10 to 10 or a name, or the point's type allows no
-    /// scale.
+    /// The scale of the point is invalid: it is not empty, not a number from -10 to 10, and not a
+    /// name. Or the point's type allows no scale.
     Scale,
     /// The scale of the point is a name, and no sunssf point (SunSpec scale factor) has that name.
     NoSuchScale,
-    /// The point and its scale point (SunSpec scale factor) differ in function or area number, or
-    /// span more than 125 registers.
+    /// One Modbus read can't cover the point and its scale point (SunSpec scale factor): they
+    /// differ in function or area number, or span more than 125 registers.
     GroupTooWide,
     /// The point list has more than 512 rows after the header.
     TooMany,
@@ -43,7 +44,7 @@ pub enum RowFault {
 impl RowFault {
     ghost use Rattle.point_list.specs.Faults.{fault_number};
 
-    /// Returns the numeric code of the row's fault. The codes begin at 1.
+    /// Returns the numeric code of the fault of a point list's row. The codes begin at 1.
     pub fn number(self) -> u8
         ensures { result ≡ fault_number self }
     {
@@ -105,7 +106,8 @@ impl Display for FaultyRow {
 
 impl Error for FaultyRow {}
 
-/// The faulty rows of a point list, in order of row number, as `read_list` returns them.
+/// The faulty rows of a point list, in order of row number. The function `read_list` returns them
+/// as its error.
 #[derive(Debug, Drop)]
 pub struct FaultyRows {
     rows: Vec<FaultyRow>,
@@ -161,15 +163,17 @@ impl Error for FaultyRows {}
 #[derive(Debug, Drop)]
 pub enum ListFault {
     Memory,
-    /// At least one row of the point list is faulty. Each faulty row has its first fault.
+    /// At least one row of the point list is faulty. The value lists the faulty rows, each with its
+    /// first fault.
     Faults(FaultyRows),
 }
 
 impl ListFault {
     ghost use Rattle.point_list.specs.Lists.{list_fault_number};
 
-    /// Returns the numeric code that the program prints for the fault of a point list. `Faults` has
-    /// no code, because each faulty row is printed with its own code.
+    /// Returns the numeric code that the program prints for the fault of a point list. The variant
+    /// `Faults` (a list of faulty rows) has no code, because each faulty row is printed with its
+    /// own code.
     pub fn number(&self) -> Option<u8>
         ensures { result ≡ list_fault_number self.now }
     {

@@ -1,4 +1,5 @@
-//! Checks whether points form a valid point list.
+//! Checks whether points form a valid point list: at most 512 points with distinct names, each with
+//! a valid size, address and scale.
 ghost use Rattle.std.specs.Prelude.{◌≡◌, ◌≢◌, ◌+◌, ◌≤◌, ◌↔◌, IsTrue};
 ghost use Rattle.std.specs.List.{All, AllPairs};
 ghost use Rattle.point_list.specs.Names.{is_name};
@@ -14,7 +15,7 @@ use sun_points::PointType;
 /// The maximum number of points in a point list.
 pub const POINT_LIMIT: usize = 512;
 
-/// Returns whether points of this type may have a scale.
+/// Returns whether points of this SunSpec type may have a scale (a power of ten).
 pub fn is_scaled_type(kind: PointType) -> bool
     ensures { result ≡ takes_scale kind }
 {
@@ -123,7 +124,8 @@ fn are_scaled(points: &[ListedPoint]) -> bool
     points.iter().all(|point| has_lawful_scale(points, point))
 }
 
-/// Returns whether points form a valid point list.
+/// Returns whether points form a valid point list: at most 512 points with distinct names, each
+/// with a valid size, address and scale.
 pub fn is_lawful(points: &[ListedPoint]) -> bool
     ensures { IsTrue result ↔ IsPointList points.now }
 {

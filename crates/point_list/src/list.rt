@@ -28,7 +28,8 @@ impl Model for PointList {
 impl PointList {
     ghost use Rattle.point_list.specs.Points.{IsPointList};
 
-    /// Creates a point list. Returns the points as the error if they do not form a valid list.
+    /// Creates a point list. Returns the points as the error if they do not form a valid list, for
+    /// example if two points have the same name.
     pub fn new(points: Vec<ListedPoint>) -> Result<Self, Vec<ListedPoint>>
         ensures lawful { IsOk result ↔ IsPointList points.items }
         ensures list { IfOk result (λ list. list ≡ points.items) }
@@ -41,7 +42,8 @@ impl PointList {
         }
     }
 
-    /// Creates a point list from points that the contract guarantees to be valid.
+    /// Creates a point list from points that form a valid list, as the function's contract
+    /// requires.
     pub(crate) fn of_lawful(points: Vec<ListedPoint>) -> Self
         requires { IsPointList points.items }
         ensures { result ≡ points.items }

@@ -71,7 +71,7 @@ fn add_fault(
 }
 
 // Returns the faulty rows of a point list, without faults of scale points (SunSpec scale factors),
-// which `scale_faults` finds.
+// which the function `scale_faults` finds.
 fn faulty_rows(alloc: Global, rows: &[ByteRecord]) -> Result<Vec<FaultyRow>, AllocError>
     requires { length rows.now ≤ 513 }
     ensures { IfOk result
@@ -145,11 +145,12 @@ fn list_below(alloc: Global, rows: &[ByteRecord]) -> Result<PointList, ListFault
 /// `name,function,area,address,type,scale`, and a row for each point. A byte order mark and blank
 /// lines are skipped. At most 513 rows below the header are read.
 ///
-/// - The function is 3 or 4, the area number 0 to 255, and the address 0 to 65535.
-/// - The scale is empty, -10 to 10, or the name of a sunssf point in the list.
+/// - The function code of a point is 3 or 4, its area number (no read has points of two areas) 0 to
+///   255, and its address 0 to 65535.
+/// - The scale of a point is empty, -10 to 10, or the name of a sunssf point in the list.
 ///
-/// An error of the CSV reader is reported as `Memory`. The complete text is in memory, so reading
-/// it cannot fail otherwise.
+/// An error of the CSV reader is reported as `Memory` (not enough memory). The complete CSV text is
+/// in memory, so the reader can fail for no other reason.
 pub fn read_list(alloc: Global, text: &[u8]) -> Result<PointList, ListFault>
     ensures list { IfOk result (λ list. SpellsList text.now list) }
     ensures faults { IfErr result (ExplainsList (list_faults (rows_read text.now))) }

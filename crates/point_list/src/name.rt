@@ -61,7 +61,7 @@ impl PointName {
         }
     }
 
-    /// Creates a point name from bytes that the contract guarantees to be valid.
+    /// Creates a point name from bytes that are a valid name, as the function's contract requires.
     pub(crate) fn of_lawful(bytes: Vec<u8>) -> Self
         requires { IsTrue (is_name bytes.items) }
         ensures { result ≡ bytes.items }

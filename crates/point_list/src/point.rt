@@ -40,7 +40,7 @@ pub(crate) fn is_scale_type(kind: PointType) -> bool
     }
 }
 
-/// Returns the scale factor point (type `sunssf`) of the list with this name, or `None`.
+/// Returns the scale factor point (type `sunssf`) of a point list with this name, or `None`.
 pub fn find_scale<'a>(points: &'a [ListedPoint], name: &[u8]) -> Option<&'a ListedPoint>
     ensures { option_copied result ≡ scale_point points.now name.now }
 {

@@ -65,8 +65,8 @@ fn is_taken(earlier: &[ByteRecord], name: &[u8]) -> bool
     earlier.iter().any(|row| row_has_name(row, name))
 }
 
-// Returns whether a point of this type extends past address 65535. Returns `false` for an unknown
-// type, which has its own fault.
+// Returns whether a point of this type at this address extends past address 65535. Returns `false`
+// for an invalid address or type, which has its own fault.
 fn is_past_end(address: Option<u64>, kind: Option<PointType>) -> bool
     ensures { result ≡ reaches_past address kind }
 {

@@ -41,7 +41,7 @@ fn scale_of(alloc: Global, field: &[u8]) -> Result<Option<PointScale>, AllocErro
 }
 
 // Returns the point with this name, this scale, and the other four fields of a row. The caller
-// parses name and scale, because both need memory.
+// parses the name and the scale, because these two allocate memory.
 fn point_with(
     name: Option<PointName>,
     scale: Option<PointScale>,

@@ -32,8 +32,8 @@ each_number t es =
     IsPermutation-trans _ _ _ (same_is _ _ (sym (numbers_started-is t [] es)))
     (IsPermutation-trans _ _ _ (parts rs) (IsPermutation-append _ _ _ _ reported (IsPermutation-refl (map number (waiting rs)))))
 
--- True if one of the events starts the poll, and the later events lead to the given outcome (or to
--- `None`).
+-- True if one of the events starts the poll, and the events after it give the poll this outcome.
+-- The outcome `None` means that they do not complete the poll.
 record Comes (t : ℕ) (es : List Event) (r : Poll × Option Settlement) : Type 0 where
   before : List Event
   start : Event

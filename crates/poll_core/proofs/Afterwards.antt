@@ -1,4 +1,5 @@
--- Lemmas about one more event of a polling session, and about a session that is over.
+-- Lemmas on the pending polls and the outcomes of a polling session (the polls of one device over
+-- one connection) after one more event. A session that is over has no pending polls.
 use Rattle.std.proofs.Common.{map, ◌≡◌, ℕ, Bool, true, false, not, ◌&&◌, ◌||◌, cond, List, [], ◌∷◌, ◌++◌, refl, sym, ap, ◌∙◌, subst, inl, inr, Option, Some, None, append_assoc}
 use Rattle.std.specs.List.{filter}
 use Rattle.std.specs.Prelude.{IsSome}
@@ -55,8 +56,8 @@ and_fresh : (g b : Bool) → b ≡ false → (g && not b) ≡ g
 and_fresh true b h = ap not h
 and_fresh false b h = refl
 
--- If a session is over after an event, but was not over before it, then `ending_at` gives a cause
--- for the end of the session.
+-- If a polling session is over after an event, but was not over before it, then `ending_at` (the
+-- cause by which an event ends a session) has a value.
 ending_at-over : (es : List Event) (e : Event) → is_over es ≡ false → is_over (es ++ e ∷ []) ≡ true → is_some (ending_at es e) ≡ true
 unfolding is_over ending_at
 ending_at-over es e going over =
@@ -84,7 +85,8 @@ not_some : {X : Type 0} (o : Option X) → o ≡ None → IsSome o → ⊥
 not_some None h g = cc
 not_some (Some x) h g = cc
 
--- If a session that is over has no pending poll, then it has none after one more event either.
+-- If a polling session that is over has no pending poll, then it has none after one more event
+-- either.
 keeps : (t w : ℕ) (es : List Event) (e : Event) → Accepts t w es e → (is_over es ≡ true → pending t es ≡ []) → is_over (es ++ e ∷ []) ≡ true → pending t (es ++ e ∷ []) ≡ []
 keeps t w es (Start m n u s) accepted h over =
     let was : is_over es ≡ true = sym (is_over-same es (Start m n u s) refl ∙ or_false (is_over es)) ∙ over in

@@ -34,8 +34,8 @@ pub middle : {X : Type 0} (x : X) (xs ys zs : List X) → IsPermutation xs (ys +
 middle x xs ys zs h =
     IsPermutation-trans _ _ _ (IsPermutation-cons x xs (ys ++ zs) h) (IsPermutation-sym _ _ (IsPermutation-middle ys x zs))
 
--- Suppose that a test divides some polls into two lists, and that the outcomes of both lists
--- together are a permutation of all outcomes. The same is true after one more poll is added.
+-- Suppose that a test divides a list of polls into two lists, whose outcomes together are a
+-- permutation of the outcomes of all these polls. This is still true after one more poll is added.
 parted_step : (t : Bool) (f g h : Poll → Option Settlement) (p : Poll) (o : Settlement) (r : Option Settlement) (xs ys : List Poll) (us : List (ℕ × Settlement)) → f p ≡ cond t (Some o) r → g p ≡ Some o → h p ≡ r → IsPermutation us (give g xs ++ give h ys) → IsPermutation (filter_map (λ (q : Poll). named q (f q)) (p ∷ []) ++ us) (give g (cond t (p ∷ xs) xs) ++ give h (cond (not t) (p ∷ ys) ys))
 parted_step true f g h p o r xs ys us fe ge he rest =
     let P : Option Settlement → Option Settlement → Type 0 = λ a b. IsPermutation (cons_named p a [] ++ us) (cons_named p b (give g xs) ++ give h ys) in
@@ -72,7 +72,7 @@ give_lost None ps = give_none ps
 give_lost (Some c) ps = give_all (λ _. Lost c) ps
 
 -- The outcome of a poll by the first frame with the poll's transaction identifier. Without such a
--- frame, it is the loss by the end of the session, if the session ended.
+-- frame, the poll is lost if the polling session ended, and otherwise has no outcome.
 abbrev framed : List (List ℕ) → Option LostCause → Poll → Option Settlement
 framed fs x p = option_or (option_map (answer p) (find (is_for p) fs)) (option_map Lost x)
 
@@ -95,7 +95,7 @@ by_frames (f ∷ fs) x ps =
     sym (append_assoc reported (by_frame fs others) (losses x (unmatched fs others))) ∙ ap (λ y. (reported ++ by_frame fs others) ++ losses x y) (sym (unmatched-cons f fs ps)) in
     IsPermutation-trans _ _ _ first (IsPermutation-trans _ _ _ later (same_is _ _ same))
 
--- The poll numbers and outcomes of those polls of a list that the event completes.
+-- The poll numbers and outcomes of those polls of a list that an event completes.
 abbrev newly : List Event → Event → List Poll → List (ℕ × Settlement)
 newly es e ps = give (λ p. settled_by es e p) ps
 
@@ -145,7 +145,8 @@ extended_step : (p : Poll) (o : Option Settlement) (xs ys zs : List (ℕ × Sett
 extended_step p None xs ys zs h = h
 extended_step p (Some o) xs ys zs h = middle (p.number, o) xs ys zs h
 
--- One more event adds exactly the outcomes of those pending polls that the event completes.
+-- One more event adds to the outcomes of the events before it exactly the outcomes of those pending
+-- polls that it completes.
 extended : (es : List Event) (e : Event) (rs : List (Poll × Option Settlement)) → IsPermutation (outcomes_in (map (extend es e) rs)) (outcomes_in rs ++ newly es e (waiting rs))
 extended es e [] = IsPermutation-refl []
 extended es e ((p, Some o) ∷ rs) = IsPermutation-cons (p.number, o) _ _ (extended es e rs)

@@ -15,8 +15,8 @@ use Rattle.poll_core.specs.declared.outcome.LostCause.TheVariants as cause
 abbrev registers : ℕ → ℕ → Span
 registers address count = record { function = HoldingRegisters; address = address; count = count }
 
--- The first poll of the examples, started at 100 with a timeout of 5 seconds. It requests three
--- registers of unit 1.
+-- The first poll of the examples, started at second 100 with a timeout of 5 seconds. It requests
+-- three registers of unit 1.
 abbrev one : List Event
 one = Start 100 1 1 (registers 40094 3) ∷ []
 
@@ -57,7 +57,7 @@ garbled : outcomes_at 5 one (Piece 104 (0 ∷ 0 ∷ 0 ∷ 0 ∷ 0 ∷ 1 ∷ []))
 unfolding outcomes_at pending frames_at ending_at stream next_id settled_by frames frames_in rest rest_in is_garbled
 garbled = refl
 
--- A session that receives four bytes of a response before its connection ends.
+-- A polling session that receives four bytes of a response before its connection ends.
 abbrev four_bytes : List Event
 four_bytes = one ++ Piece 103 (0 ∷ 0 ∷ 0 ∷ 0 ∷ []) ∷ []
 
@@ -69,7 +69,7 @@ lost_late : outcomes_at 5 four_bytes (Close 105 Gone) ≡ (1, Silent) ∷ []
 unfolding outcomes_at pending frames_at ending_at stream next_id settled_by frames frames_in rest rest_in is_garbled
 lost_late = refl
 
--- A session with two polls whose responses arrive in one chunk, the second response first.
+-- A polling session with two polls whose responses arrive in one chunk, the second response first.
 abbrev two : List Event
 two = Start 1000 1 1 (registers 0 1) ∷ Start 1000 2 1 (registers 1 1) ∷ []
 
@@ -87,8 +87,8 @@ both_silent = refl
 the_last_moment : LAST_MOMENT ≡ (130 * 365 + 32) * 86400
 the_last_moment = refl
 
--- With the longest timeout of 60 seconds, a poll started at 100 is pending at 159 and times out at
--- 160.
+-- With the longest timeout of 60 seconds, a poll started at second 100 is pending at second 159 and
+-- times out at second 160.
 waits_59_seconds : outcomes_at MAX_TIMEOUT one (Tick 159) ≡ []
 unfolding outcomes_at pending frames_at ending_at stream next_id settled_by frames frames_in rest rest_in is_garbled
 waits_59_seconds = refl

@@ -1,5 +1,5 @@
--- Lemmas about chunks of received bytes that a polling session feeds to its frame reader, and the
--- polls that their frames complete.
+-- Lemmas on feeding chunks of received bytes to a polling session's frame reader: which poll a
+-- frame completes, and that successive chunks have the effect of one long chunk.
 use Rattle.std.proofs.Common.{◌≡◌, ℕ, suc, ◌+◌, ◌-◌, ◌≤◌, ◌⊎◌, Bool, true, false, not, ◌&&◌, List, [], ◌∷◌, ◌++◌, length, take, drop, map, refl, sym, ap, ◌∙◌, subst, arith, Option, Some, None, inl, inr, append_assoc, length-drop}
 use Rattle.std.specs.List.{filter}
 use Rattle.std.proofs.Math.Seq.{take-add}
@@ -121,8 +121,9 @@ piece-more at n piece = take-add at n piece ∙ ap (λ x. take at piece ++ take 
 abbrev slice_at : ℕ → List ℕ → List ℕ
 slice_at at piece = take (length piece - at) (drop at piece)
 
--- Suppose that the first bytes of a chunk completed no poll. Then the effect of one more call of
--- `feed` is the effect of all bytes of the chunk so far.
+-- Suppose that the bytes passed to the frame reader until now, from one received chunk, completed
+-- no poll. Then one more call of `feed` with further bytes of the chunk has the effect of passing
+-- all these bytes at once.
 goes_on : (old piece : List ℕ) (at n : ℕ) (ps qs : List Poll) (o : Option Poll) (mid buffered : Buffered) → Strays old piece at ps mid → Finds mid.rest (take n (slice_at at piece)) ps o buffered qs → Finds old (take (at + n) piece) ps o buffered qs
 goes_on old piece at n ps qs o mid buffered strays more =
     let P : List ℕ → Type 0 = λ y. Finds old y ps o buffered qs in

@@ -1,4 +1,4 @@
--- Lemmas about which pending polls received frames complete.
+-- Lemmas about which of the pending polls (without an outcome) are completed by received frames.
 use Rattle.std.proofs.Common.{◌≡◌, ℕ, Bool, true, false, cond, not, ◌&&◌, List, [], ◌∷◌, ◌++◌, map, refl, sym, ap, ◌∙◌, Option, Some, append_assoc}
 use Rattle.std.specs.List.{filter, find}
 use Rattle.std.specs.Option.{is_none}

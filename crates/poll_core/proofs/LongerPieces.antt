@@ -23,8 +23,8 @@ none_lost : (c : LostCause) (ps : List Poll) → losses (Some c) ps ≡ [] → p
 none_lost c [] h = refl
 none_lost c (p ∷ ps) h = absurd (cc)
 
--- The flag `b` is true for an invalid length field. If a received chunk ends the session, then `b`
--- is true.
+-- Suppose that a polling session ends with the cause `Garbled` exactly if the flag `b` is true (a
+-- frame has an invalid length field). If the session ends with a cause, then `b` is true.
 lost_before : (b : Bool) (c : LostCause) → cond b (Some Garbled) None ≡ Some c → b ≡ true
 lost_before true c h = refl
 lost_before false c h = absurd (cc)

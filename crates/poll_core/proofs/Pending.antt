@@ -1,4 +1,5 @@
--- Lemmas about the effect of one more event on the pending polls.
+-- Lemmas on one more event of a polling session: which polls are then still pending, and which
+-- outcomes the polls have.
 use Rattle.std.proofs.Common.{◌≡◌, ℕ, Bool, true, false, cond, not, ◌&&◌, List, [], ◌∷◌, ◌++◌, map, refl, sym, ap, ◌∙◌, Option, Some, None, append_assoc}
 use Rattle.std.specs.List.{filter, find}
 use Rattle.std.specs.Option.{is_none, option_or, option_map}
@@ -83,7 +84,8 @@ pending-push t es e =
     ∙ map-append (λ (r : Poll × Option Settlement). r.0) (filter (λ r. is_none r.1) (map (extend es e) old)) (filter (λ r. is_none r.1) new)
     ∙ ap (λ x. x ++ waiting new) (waiting-extend es e old)
 
--- The start of a poll appends the poll to the pending polls.
+-- Lemma: an event that starts a poll appends this poll to the polling session's pending polls
+-- (polls without an outcome).
 pub pending-start : (t : ℕ) (es : List Event) (m n u : ℕ) (s : Span) (p : Poll) → started t es (Start m n u s) ≡ Some p → pending t (es ++ Start m n u s ∷ []) ≡ pending t es ++ p ∷ []
 unfolding settled_by
 pending-start t es m n u s p e =
@@ -126,7 +128,8 @@ not_started t es (Tick m) h = refl
 not_started t es (Close m c) h = refl
 
 -- An event that starts no poll removes the pending polls that time out, and those whose transaction
--- identifier a received frame has. An event that ends the session removes all pending polls.
+-- identifier a received frame has. An event that ends the polling session removes all pending
+-- polls.
 pub pending-other : (t : ℕ) (es : List Event) (e : Event) → is_start e ≡ false → pending t (es ++ e ∷ []) ≡ if_going (ending_at es e) (unmatched (frames_at es e) (alive (moment_of e) (pending t es)))
 pending-other t es e other =
     pending-push t es e

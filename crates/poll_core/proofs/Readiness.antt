@@ -1,7 +1,7 @@
 -- Lemmas about consecutive starts of polls, with no other event between the starts. The main lemma
--- `ready_by` derives `IsReady` from `HasRoom`, for each `count` of at most 16. `IsReady` states
--- that the next `count` starts at valid times succeed. It also states that the session refuses the
--- start after them.
+-- `ready_by` derives `IsReady` from `HasRoom` (a check of the polling session's state), for each
+-- `count` of at most 16. `IsReady` states that the next `count` starts at valid times succeed. It
+-- also states that the session refuses the start after them.
 use Rattle.std.proofs.Common.{◌≡◌, ◌≢◌, ℕ, suc, ◌+◌, ◌-◌, ◌%◌, ◌<◌, ◌≤◌, Bool, ltb, true, false, not, ◌&&◌, ◌||◌, List, [], ◌∷◌, ◌++◌, length, refl, sym, ap, ◌∙◌, arith, inl, inr, Option, Some, None, leb, append_assoc, length-append, cond}
 use Rattle.std.specs.List.{list_any}
 use Rattle.std.specs.Prelude.{IsSome}
@@ -39,7 +39,7 @@ any-push t [] x = or_false (t x)
 any-push t (y ∷ xs) x = ap (λ b. t y || b) (any-push t xs x) ∙ or_assoc (t y) (list_any t xs) (t x)
 
 -- The state after consecutive starts of polls: how many polls are pending, which transaction
--- identifier is next, and whether the session is over.
+-- identifier is next, and whether the polling session is over.
 record Started (t : ℕ) (es starts : List Event) : Type 0 where
   count : length (pending t (es ++ starts)) ≡ length (pending t es) + length starts
   next : next_id (es ++ starts) ≡ (next_id es + length starts) % 65536
@@ -101,8 +101,8 @@ or_both : (a b : Bool) → a ≡ false → b ≡ false → (a || b) ≡ false
 or_both true b h g = absurd (cc)
 or_both false b h g = g
 
--- If no pending poll uses a transaction identifier, and none of the later starts gets it, then it
--- is still unused after these starts.
+-- Suppose that no pending poll uses a transaction identifier, and that none of several further
+-- starts of polls gets it. Then it is still unused after these starts.
 still_free : (t : ℕ) (es starts : List Event) (id : ℕ) → AreStarts starts → ((j : ℕ) → j < length starts → id ≢ (next_id es + j) % 65536) → list_any (has_id id) (pending t es) ≡ false → list_any (has_id id) (pending t (es ++ starts)) ≡ false
 still_free t es [] id h others free = ap (λ xs. list_any (has_id id) (pending t xs)) (append-nil es) ∙ free
 still_free t es (Start m n u span ∷ starts) id h others free =
@@ -122,12 +122,13 @@ still_free t es (Piece m b ∷ starts) id h others free = absurd (let f : false 
 still_free t es (Tick m ∷ starts) id h others free = absurd (let f : false ≡ true = h.0 in cc)
 still_free t es (Close m c ∷ starts) id h others free = absurd (let f : false ≡ true = h.0 in cc)
 
--- The transaction identifiers of at most 65536 consecutive starts differ.
+-- The transaction identifiers of at most 65536 polls that a session starts one after another
+-- differ.
 apart_ids : (n j k : ℕ) → j < k → k < 65536 → (n + k) % 65536 ≢ (n + j) % 65536
 apart_ids n j k less few same = omega arith
 
--- If `start_fits` allows one more start of a poll after some earlier starts, then the session does
--- not refuse this start.
+-- If the check `start_fits` (of the pending polls, the transaction identifier and the session's
+-- end) allows one more start after some starts, the polling session does not refuse it.
 fits_after : (t w m : ℕ) (es starts : List Event) → AreStarts starts → length starts < 65536 → start_fits w (pending t es) (next_id es) (is_over es) (length starts) ≡ true → last_moment (es ++ starts) ≤ m → start_fault t w (es ++ starts) m ≡ None
 fits_after t w m es starts h few fits late =
     let k = length starts in
@@ -189,8 +190,8 @@ ready_is t w es id count next few succeed no_more =
           after_full t w m es starts h e;
     }
 
--- The check `start_fits` has the same result, whether it is computed from a session's state or from
--- the events that led to this state.
+-- The check `start_fits`, which says whether one more poll may start, has the same result by either
+-- computation: from a session's state, or from the events that led to it.
 fits_is : (s : State) (es : List Event) (k : ℕ) → Stands s es → start_fits s.window s.polls s.next (is_some s.ending) k ≡ start_fits s.window (pending s.timeout es) (next_id es) (is_over es) k
 fits_is s es k h =
     ap (λ ps. start_fits s.window ps s.next (is_some s.ending) k) h.polls

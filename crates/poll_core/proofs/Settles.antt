@@ -26,8 +26,9 @@ use Rattle.poll_core.specs.declared.outcome.Call.{Call}
 use Rattle.poll_core.specs.declared.outcome.Call.TheVariants as call
 use Rattle.poll_core.specs.declared.poll.SettledBy.TheVariants as by
 
--- True if a session with these fields has reported some outcomes of the event and must still report
--- the others. This is the relation `Within`, reduced to the fields that it depends on.
+-- True if a polling session with these fields has reported some outcomes of the event and must
+-- still report the others. This is the relation `Within` (a session is processing an event),
+-- reduced to the fields that it depends on.
 pub record Mid (t m n : ℕ) (r : List ℕ) (ps : List Poll) (x : Option LostCause) (es : List Event) (e : Event) (reported : List (ℕ × Settlement)) : Type 0 where
   pub last : m ≡ moment_of e
   pub next : n ≡ next_id (es ++ e ∷ [])
@@ -50,7 +51,7 @@ losses-none : (x : Option LostCause) → losses x [] ≡ []
 losses-none None = refl
 losses-none (Some c) = refl
 
--- No outcome is reported if no poll is pending.
+-- A polling session reports no outcome if none of its polls is pending (without an outcome).
 pub reported_at-none : (m : ℕ) (fs : List (List ℕ)) (x : Option LostCause) → reported_at m [] fs x ≡ []
 reported_at-none m fs x = ap (λ y. y ++ losses x []) (by_frame-none fs) ∙ losses-none x
 
@@ -81,8 +82,8 @@ last_moment-push [] e = refl
 last_moment-push (f ∷ []) e = refl
 last_moment-push (f ∷ g ∷ es) e = last_moment-push (g ∷ es) e
 
--- If a session that is processing an event reports one more outcome, then it is still processing
--- the same event.
+-- If a polling session that is processing an event reports one more outcome, then it is still
+-- processing the same event.
 pub tell : (t m n : ℕ) (r : List ℕ) (ps qs : List Poll) (x : Option LostCause) (es : List Event) (e : Event) (reported : List (ℕ × Settlement)) (taken : SettledPoll) (frame : Option (List ℕ)) → Mid t m n r ps x es e reported → ReportsOwed m x ps (Some taken) qs → Mid t m n r qs x es e (reported ++ reported_by taken frame ∷ [])
 tell t m n r ps qs x es e reported taken frame mid h =
     record {
@@ -103,8 +104,8 @@ pub some_case : (x : Option LostCause) → is_some x ≡ true → (c : LostCause
 some_case None h = absurd (cc)
 some_case (Some c) h = (c, refl)
 
--- If a session that is processing an event has no outcome left to report, then it has processed the
--- event completely.
+-- If a polling session that is processing an event has no outcome left to report, then it has
+-- processed the event completely.
 pub done : (t m n w : ℕ) (r : Buffered) (ps qs : List Poll) (x : Option LostCause) (es : List Event) (e : Event) (reported : List (ℕ × Settlement)) → Mid t m n r.rest ps x es e reported → ReportsOwed m x ps None qs → Stands (record { timeout = t; window = w; last = m; next = n; reader = r; polls = qs; ending = x; settling = None }) (es ++ e ∷ []) × (reported ≡ outcomes_at t es e)
 done t m n w r ps qs x es e reported mid h = (
   record {
@@ -129,8 +130,8 @@ pub none_case : (x : Option LostCause) → is_some x ≡ false → x ≡ None
 none_case None h = refl
 none_case (Some c) h = absurd (cc)
 
--- If a session is already over, it has no pending poll. A later end of the session thus loses no
--- poll.
+-- If a polling session is already over, it has no pending poll. A later end of the session thus
+-- loses no poll.
 ends_losses : (x y : Option LostCause) (ps : List Poll) → (is_some x ≡ true → ps ≡ []) → losses (option_or x y) ps ≡ losses y ps
 ends_losses None y ps h = refl
 ends_losses (Some c) y ps h = ap (losses (Some c)) (h refl) ∙ sym (ap (losses y) (h refl) ∙ losses-none y)
@@ -153,8 +154,8 @@ is_over-closed : (es : List Event) → is_closed es ≡ true → is_over es ≡ 
 unfolding is_over
 is_over-closed es h = or_right _ _ h
 
--- Suppose that a session has processed all earlier events, and gets an event without bytes. Then it
--- is processing this event, with no outcome reported yet.
+-- Suppose that a polling session has processed all earlier events, and gets an event without bytes.
+-- Then it is processing this event, with no outcome reported yet.
 pub begin : (s : State) (es : List Event) (e : Event) → is_start e ≡ false → bytes_of e ≡ [] → Stands s es → Mid s.timeout (moment_of e) s.next s.reader.rest s.polls (option_or s.ending (closing_of e)) es e []
 begin s es e other none h =
     let m = moment_of e in
@@ -205,7 +206,7 @@ and_true : (b : Bool) → (b && true) ≡ b
 and_true true = refl
 and_true false = refl
 
--- If the deadlines of all polls are after a time, no poll is due at that time.
+-- If the deadlines of all polls are after a time, no poll has timed out at that time.
 alive_due : (m : ℕ) (ps : List Poll) → alive m ps ≡ ps → filter (due m) ps ≡ []
 alive_due m ps h =
     ap (filter (due m)) (sym h)
@@ -237,8 +238,8 @@ over_parts es m p =
 fresh_before : (one : OneReading) → (b p : List ℕ) → is_garbled (b ++ p) ≡ false → is_garbled b ≡ false
 fresh_before one b p h = false_from_ne_true _ (λ g. both_ways _ h (is_garbled-append one b p g))
 
--- After a session reads more bytes of a chunk, the session is still processing the chunk. These
--- bytes complete at most one poll by a frame, and can end with an invalid length field.
+-- After a polling session reads more bytes of a chunk, the session is still processing the chunk.
+-- These bytes complete at most one poll by a frame, and can end with an invalid length field.
 pub feed : (one : OneReading) → (t m n : ℕ) (r q p : List ℕ) (buffered : Buffered) (ps qs : List Poll) (o : Option Poll) (es : List Event) (reported : List (ℕ × Settlement)) (g : Bool) → Mid t m n r ps None es (Piece m p) reported → owed_by m None ps ≡ [] → alive m ps ≡ ps → Finds r q ps o buffered qs → is_bad buffered.rest ≡ g → Mid t m n buffered.rest qs (garbled_end g) es (Piece m (p ++ q)) (reported ++ reported_list o buffered.frame)
 feed one t m n r q p buffered ps qs o es reported g mid none all found bad =
     let e = Piece m p in
@@ -303,8 +304,8 @@ ending_at-garbled : (es : List Event) (m : ℕ) (p q : List ℕ) → is_garbled 
 unfolding ending_at
 ending_at-garbled es m p q g h = ap (λ b. cond (b && not (is_garbled (stream es))) (Some Garbled) None) (h ∙ sym g)
 
--- After an invalid length field or a close of the session, more bytes of a chunk change neither the
--- outcomes nor the pending polls.
+-- After an invalid length field or a close of the polling session, more bytes of a chunk change
+-- neither the outcomes nor the pending polls.
 same_at : (one : OneReading) → (t m : ℕ) (p q : List ℕ) (es : List Event) → (is_closed es ≡ true → pending t es ≡ []) → (is_garbled (stream es ++ p) || is_closed es) ≡ true → (outcomes_at t es (Piece m (p ++ q)) ≡ outcomes_at t es (Piece m p)) × (pending t (es ++ Piece m (p ++ q) ∷ []) ≡ pending t (es ++ Piece m p ∷ [])) × ((is_garbled (stream es ++ (p ++ q)) || is_closed es) ≡ true)
 same_at one t m p q es none over =
     let e = Piece m p in
@@ -330,7 +331,7 @@ same_at one t m p q es none over =
           )
     ]
 
--- A session that is over discards further bytes of a chunk.
+-- A polling session that is over discards further bytes of a chunk.
 pub drop_rest : (one : OneReading) → (t m n : ℕ) (r r' q p : List ℕ) (ps : List Poll) (c : LostCause) (es : List Event) (reported : List (ℕ × Settlement)) → Mid t m n r ps (Some c) es (Piece m p) reported → Mid t m n r' ps (Some c) es (Piece m (p ++ q)) reported
 drop_rest one t m n r r' q p ps c es reported mid =
     let e = Piece m p in
@@ -359,7 +360,7 @@ goes_with : (x : Option LostCause) (es : List Event) (e : Event) → is_some x �
 goes_with None es e h = closing_none (is_closed es) (closing_of e) (or_parts _ _ (sym (unfold_over es e) ∙ sym h)).1
 goes_with (Some c) es e h = refl
 
--- A call for an event begins, either the first call or a repeated one. The session has then
+-- When a call for an event begins (the first call or a repeated one), the polling session has
 -- reported some outcomes of the event and must report the others.
 pub enter : (s : State) (es : List Event) (e : Event) (reported : List (ℕ × Settlement)) → is_start e ≡ false → Before s es e reported → Mid s.timeout (moment_of e) s.next s.reader.rest s.polls (option_or s.ending (closing_of e)) es e reported
 enter s es e reported other (inl (stands, bare, none)) =
@@ -379,14 +380,14 @@ enter s es e reported other (inr (settling, w)) =
       buffered = w.buffered;
     }
 
--- After a call that reports one more outcome of an event, the session is still processing the
--- event.
+-- After a call that reports one more outcome of an event, the polling session is still processing
+-- the event.
 pub reported_more : (t m n w : ℕ) (r : Buffered) (ps : List Poll) (x : Option LostCause) (z : Option Call) (es : List Event) (e : Event) (reported : List (ℕ × Settlement)) → Mid t m n r.rest ps x es e reported → Within (record { timeout = t; window = w; last = m; next = n; reader = r; polls = ps; ending = x; settling = z }) es e reported
 reported_more t m n w r ps x z es e reported mid =
     record { last = mid.last; next = mid.next; whole = mid.whole; polls = mid.polls; over = mid.over; none_after = mid.none_after; buffered = mid.buffered }
 
--- If a call only reports outcomes that are already due, the session is afterwards in a state that
--- `After` (the state after a call) allows.
+-- If a call only reports outcomes that are already due, the polling session's state afterwards
+-- satisfies `After`, the condition for states after a call.
 pub settle : (t m n w : ℕ) (r : Buffered) (ps qs : List Poll) (x : Option LostCause) (call : Call) (taken : Option SettledPoll) (es : List Event) (e : Event) (reported : List (ℕ × Settlement)) → call_of e ≡ Some call → Mid t m n r.rest ps x es e reported → ReportsOwed m x ps taken qs → After (record { timeout = t; window = w; last = m; next = n; reader = r; polls = qs; ending = x; settling = call_if taken call }) es e reported (reported_of taken r.frame)
 settle t m n w r ps qs x call None es e reported by mid h = done t m n w r ps qs x es e reported mid h
 settle t m n w r ps qs x call (Some taken) es e reported by mid h =
@@ -405,8 +406,8 @@ pub closes : (s : State) (m : ℕ) (c : Closing) (qs : List Poll) (taken : Optio
 closes s m c qs taken h es reported b =
     settle s.timeout m s.next s.window s.reader s.polls qs (option_or s.ending (Some (cause_of c))) (call.Close c) taken es (Close m c) reported refl (enter s es (Close m c) reported refl b) h
 
--- A call for a received chunk begins, either the first call or a repeated one. The session has then
--- reported some outcomes of the chunk and must report the others.
+-- When a call for a received chunk begins (the first call or a repeated one), the polling session
+-- has reported some outcomes of the chunk and must report the others.
 pub enters : (s : State) (m : ℕ) (p : List ℕ) (es : List Event) (reported : List (ℕ × Settlement)) → Before s es (Piece m p) reported → Mid s.timeout m s.next s.reader.rest s.polls s.ending es (Piece m p) reported
 enters s m p es reported b =
     let P : Option LostCause → Type 0 = λ y. Mid s.timeout m s.next s.reader.rest s.polls y es (Piece m p) reported in
@@ -417,7 +418,7 @@ piece_owed s m qs taken piece h es p reported b =
     let P : List ℕ → Type 0 = λ y. After (record { timeout = s.timeout; window = s.window; last = m; next = s.next; reader = s.reader; polls = qs; ending = s.ending; settling = Some call.Piece }) es (Piece m y) reported (reported_of (Some taken) s.reader.frame) in
     subst P (sym (append-nil p)) (settle s.timeout m s.next s.window s.reader s.polls qs s.ending call.Piece (Some taken) es (Piece m p) reported refl (enters s m p es reported b) h)
 
--- A session that is over discards the received chunk.
+-- A polling session that is over discards the received chunk.
 pub piece_dropped : (one : OneReading) → (s : State) (m : ℕ) (c : LostCause) (qs : List Poll) (piece : List ℕ) → s.ending ≡ Some c → ReportsOwed m s.ending s.polls None qs → (es : List Event) (p : List ℕ) (reported : List (ℕ × Settlement)) → Before s es (Piece m p) reported → After (record { timeout = s.timeout; window = s.window; last = m; next = s.next; reader = s.reader; polls = qs; ending = s.ending; settling = None }) es (Piece m (p ++ take (length piece) piece)) reported None
 piece_dropped one s m c qs piece over h es p reported b =
     let q = take (length piece) piece in
@@ -426,8 +427,8 @@ piece_dropped one s m c qs piece over h es p reported b =
     let mid = subst Q (sym over) (drop_rest one s.timeout m s.next s.reader.rest s.reader.rest q p s.polls c es reported (subst P over (enters s m p es reported b))) in
     done s.timeout m s.next s.window s.reader s.polls qs s.ending es (Piece m (p ++ q)) reported mid h
 
--- The state of a session after its reader read a chunk up to a frame that completes a poll, or up
--- to the end of the chunk.
+-- The state of a polling session after its reader read a chunk up to a frame that completes a poll,
+-- or up to the end of the chunk.
 abbrev fed_mid : State → ℕ → Buffered → List Poll → Option Poll → Bool → List ℕ → List Event → List ℕ → List (ℕ × Settlement) → Type 0
 fed_mid s m buffered rs o g q es p reported = Mid s.timeout m s.next buffered.rest rs (garbled_end g) es (Piece m (p ++ q)) (reported ++ reported_list o buffered.frame)
 
@@ -447,7 +448,7 @@ piece_framed one s m n piece buffered qs rs poll g going h found bad clean es p 
     (refl, reported_more s.timeout m s.next s.window buffered rs s.ending (Some call.Piece) es (Piece m (p ++ q)) (reported ++ reported_list (Some poll) buffered.frame) mid')
 
 -- If no frame in a chunk completed a poll, then the call reports a timeout or a loss that is due.
--- If none is due, the session has processed the chunk completely.
+-- If none is due, the polling session has processed the chunk completely.
 pub piece_ended : (one : OneReading) → (s : State) (m n k : ℕ) (piece : List ℕ) (buffered : Buffered) (qs rs us : List Poll) (g : Bool) (x : Option LostCause) (lost : Option SettledPoll) → s.ending ≡ None → ReportsOwed m s.ending s.polls None qs → Finds s.reader.rest (take n piece) qs None buffered rs → is_bad buffered.rest ≡ g → x ≡ garbled_end g → ReportsOwed m x rs lost us → n ≤ length piece → (g ≡ false → n ≡ length piece) → k ≡ cond (is_some lost) n (length piece) → (es : List Event) (p : List ℕ) (reported : List (ℕ × Settlement)) → Before s es (Piece m p) reported → After (record { timeout = s.timeout; window = s.window; last = m; next = s.next; reader = buffered; polls = us; ending = x; settling = call_if lost call.Piece }) es (Piece m (p ++ take k piece)) reported (reported_of lost buffered.frame)
 piece_ended one s m n k piece buffered qs rs us g x (Some taken) going h found bad x_is owes within all k_is es p reported b =
     let q = take n piece in
@@ -481,7 +482,7 @@ piece_ended one s m n k piece buffered qs rs us false x None going h found bad x
 nil_rest : (r : List ℕ) → [] ≡ r → [] ≡ r
 nil_rest r e = e
 
--- A new session has processed an empty list of events.
+-- A new polling session has processed an empty list of events.
 pub Stands-new : (one : OneReading) → (t w : ℕ) (r : Buffered) → Reads [] [] r.rest → Stands (record { timeout = t; window = w; last = 0; next = 0; reader = r; polls = []; ending = None; settling = None }) []
 unfolding pending next_id stream is_over is_closed is_garbled
 Stands-new one t w r h =

@@ -22,7 +22,8 @@ next_id-start es m n u span =
     let e : length (filter is_start (es ++ Start m n u span ∷ [])) ≡ k + 1 = ap length (filter-append is_start es (Start m n u span ∷ [])) ∙ length-append (filter is_start es) (Start m n u span ∷ []) in
     ap (λ x. x % 65536) e ∙ omega arith
 
--- A session that accepts the start of a poll has processed its earlier events and this start.
+-- A polling session that accepts the start of a poll has processed its earlier events and this
+-- start.
 pub starts : (s : State) (es : List Event) (m n u : ℕ) (span : Span) (poll : Poll) → Stands s es → s.ending ≡ None → poll ≡ record { number = n; id = s.next; unit = u; span = span; deadline = m + s.timeout } → Stands (record { timeout = s.timeout; window = s.window; last = m; next = (s.next + 1) % 65536; reader = s.reader; polls = s.polls ++ poll ∷ []; ending = s.ending; settling = s.settling }) (es ++ Start m n u span ∷ [])
 starts s es m n u span poll h going poll_is =
     let e = Start m n u span in
@@ -40,8 +41,8 @@ starts s es m n u span poll h going poll_is =
       buffered = λ _. h.buffered going ∙ ap rest (sym (stream-same es e refl));
     }
 
--- If a session refuses to start a poll, `least_fault` computes the fault from the session's state.
--- The function `start_fault` computes the same fault from the earlier events.
+-- If a polling session refuses to start a poll, `least_fault` computes the fault from the session's
+-- state. The function `start_fault` computes the same fault from the earlier events.
 pub refused : (s : State) (es : List Event) (m : ℕ) (fault : Option StartFault) → fault ≡ least_fault s.window s.polls s.next s.last (is_some s.ending) m → Stands s es → fault ≡ start_fault s.timeout s.window es m
 refused s es m fault e h =
     e

@@ -1,4 +1,5 @@
--- Lemmas about received byte streams to which further bytes are appended.
+-- Lemmas about the bytes that a device sent, to which further bytes are appended: which frames they
+-- contain, and whether they are garbled (have an invalid length field).
 use Rattle.std.proofs.Common.{◌≡◌, ℕ, ◌+◌, ◌≤◌, inl, inr, Bool, true, false, cond, not, ◌&&◌, List, [], ◌∷◌, ◌++◌, length, drop, refl, sym, ap, ◌∙◌, arith, append_assoc, length-append, Some}
 use Rattle.std.specs.List.{flat_map, AllByRecursion}
 use Rattle.std.proofs.lemmas.List.{append-nil, drop-append-le, get_or_append_left}
@@ -78,7 +79,7 @@ is_garbled-append one b q g =
     ap is_bad (one.only (b ++ q) (frames b) (rest b ++ q) h).1 ∙ is_bad-bad _ bad
 
 -- Suppose that the bytes after a stream's complete frames, together with new bytes, form the frames
--- `gs`. Then the longer stream has the earlier frames, followed by `gs`.
+-- `gs`. Then the longer stream has the frames of the shorter stream, followed by `gs`.
 pub reads_on : (one : OneReading) → (b q : List ℕ) (gs : List (List ℕ)) (s : List ℕ) → Reads (rest b ++ q) gs s → Reads (b ++ q) (frames b ++ gs) s
 reads_on one b q gs s g =
     let h = one.exists b in
@@ -109,8 +110,8 @@ pub stream-push : (es : List Event) (e : Event) → stream (es ++ e ∷ []) ≡ 
 unfolding stream
 stream-push es e = flat_map-append bytes_of es (e ∷ []) ∙ ap (λ y. flat_map bytes_of es ++ y) (append-nil (bytes_of e))
 
--- If a chunk gets longer, its frames are the earlier frames, followed by the frames that the added
--- bytes complete.
+-- If bytes are appended to a chunk, its frames are those of the shorter chunk, followed by the
+-- frames that the added bytes complete.
 pub frames_at-more : (one : OneReading) → (es : List Event) (m : ℕ) (p q : List ℕ) (gs : List (List ℕ)) (r : List ℕ) → Reads ((stream es ++ p) ++ q) (frames (stream es ++ p) ++ gs) r → frames_at es (Piece m (p ++ q)) ≡ frames_at es (Piece m p) ++ gs
 unfolding frames_at
 frames_at-more one es m p q gs r h =

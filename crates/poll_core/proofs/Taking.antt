@@ -1,4 +1,4 @@
--- Lemmas about the removal of a poll from the table of pending polls.
+-- Lemmas about the list of pending polls (without an outcome) after one poll is removed from it.
 use Rattle.std.proofs.Common.{◌≡◌, ℕ, suc, ◌+◌, ◌<◌, ◌≤◌, Bool, true, false, cond, not, List, [], ◌∷◌, ◌++◌, length, get_or, refl, sym, ap, ◌∙◌, subst, arith, Option, Some, None}
 use Rattle.std.specs.List.{filter, remove}
 use Rattle.std.proofs.lemmas.Bool.{cond-false}
@@ -36,11 +36,12 @@ none_passes t (x ∷ xs) h =
     let others : filter t xs ≡ [] = sym (cond-false _ _ _ failing) ∙ h in
     ap (λ b. cond (not b) (x ∷ filter (λ y. not (t y)) xs) (filter (λ y. not (t y)) xs)) failing ∙ ap (λ ys. x ∷ ys) (none_passes t xs others)
 
--- If no poll is due and the session is not over, then the session has no outcome left to report.
+-- If no poll has timed out and the polling session is not over, then the session has no outcome
+-- left to report.
 pub reports_none : (m : ℕ) (old new : List Poll) → TakesOut (due m) old None new → ReportsOwed m None old None new
 reports_none m old new h = (h.0, ap (λ ps. silences ps ++ []) h.1, none_passes (due m) old h.1, λ e. absurd (let f : false ≡ true = e in cc))
 
--- A session without pending polls has no outcome left to report.
+-- A polling session without pending polls has no outcome left to report.
 pub reports_end : (m : ℕ) (c : LostCause) (old new : List Poll) → TakesOut (due m) old None new → old ≡ [] → ReportsOwed m (Some c) old None new
 reports_end m c old new h none =
     let a : alive m old ≡ old = none_passes (due m) old h.1 in
@@ -54,7 +55,8 @@ reports_due m ending old new p h = (
   h.2,
 )
 
--- If no poll has timed out and the session is over, the first poll is reported as lost.
+-- If no poll has timed out and the polling session is over, the first pending poll is reported as
+-- lost.
 pub reports_lost : (m : ℕ) (c : LostCause) (old mid new : List Poll) (p : Poll) → TakesOut (due m) old None mid → p ≡ get_or mid 0 p → 0 < length mid → new ≡ remove mid 0 → ReportsOwed m (Some c) old (Some (record { poll = p; by = by.End c })) new
 reports_lost m c [] mid new p h here some e = absurd (let l : length mid ≡ 0 = ap length h.0 in omega arith)
 reports_lost m c (q ∷ qs) mid new p h here some e =

@@ -49,14 +49,15 @@ numbers_settled timeout events = map (λ reported. reported.0) (outcomes_by_even
 abbrev pub numbers_pending : ℕ → List Event → List ℕ
 numbers_pending timeout events = map (λ poll. poll.number) (pending timeout events)
 
--- The poll numbers and outcomes of those polls of a list that the event completes.
+-- The poll numbers and outcomes of those polls of a list that an event completes.
 abbrev pub settled_among : List Event → Event → List Poll → List (ℕ × Settlement)
 settled_among before event polls =
     filter_map (λ poll.
     option_map (λ outcome. (poll.number, outcome)) (settled_by before event poll))
     polls
 
--- A poll and its outcome after one more event. An earlier outcome is unchanged.
+-- A poll and its outcome after one more event. If the poll had an outcome before this event, the
+-- outcome is unchanged.
 abbrev pub with_event : List Event → Event → Poll × Option Settlement → Poll × Option Settlement
 with_event before event result = (result.0, option_or result.1 (settled_by before event result.0))
 
@@ -75,8 +76,8 @@ pub record Waits (timeout : ℕ) (events : List Event) (poll : Poll) : Type 0 wh
   pub starts : started timeout before start ≡ Some poll
   pub unsettled : outcome (before ++ start ∷ []) later poll ≡ None
 
--- True if a session that processed the earlier events accepts this event: the event is not earlier
--- than the latest time, and is not a start that the session refuses.
+-- True if a polling session that processed the earlier events accepts this event. The event is not
+-- earlier than the latest of them, and is not a start of a poll that the session refuses.
 abbrev pub Accepts : ℕ → ℕ → List Event → Event → Type 0
 Accepts timeout window before (Start moment poll unit span) =
     start_fault timeout window before moment ≡ None
@@ -84,7 +85,7 @@ Accepts timeout window before (Piece moment bytes) = last_moment before ≤ mome
 Accepts timeout window before (Tick moment) = last_moment before ≤ moment
 Accepts timeout window before (Close moment closing) = last_moment before ≤ moment
 
--- True if a session that processed the earlier events accepts each further event in order.
+-- True if a polling session that processed the earlier events accepts each further event in order.
 abbrev pub AcceptsAll : ℕ → ℕ → List Event → List Event → Type 0
 AcceptsAll timeout window before [] = Unit {0}
 AcceptsAll timeout window before (event ∷ later) =
@@ -97,8 +98,8 @@ SettledOrPending timeout events =
     IsPermutation (numbers_started events)
     (numbers_settled timeout events ++ numbers_pending timeout events)
 
--- True if the outcomes after one more event are the earlier outcomes followed by the outcomes of
--- that event.
+-- True if the outcomes of polls, listed up to and including one more event, are those before this
+-- event, followed by the outcomes of this event.
 abbrev pub AddsOutcomes : ℕ → List Event → Event → Type 0
 AddsOutcomes timeout events event =
     outcomes_by_event timeout (events ++ event ∷ [])
@@ -111,29 +112,30 @@ SettlesPending timeout events event =
     IsPermutation (settled_among events event (pending timeout events))
     (outcomes_at timeout events event)
 
--- True if the polls pending after one more event are those earlier ones that it does not complete,
--- followed by the poll that it starts.
+-- True if the polls that are pending after one more event are determined by this event. They are
+-- the polls that were pending before it and that it does not complete, followed by the poll that it
+-- starts.
 abbrev pub LeavesPending : ℕ → List Event → Event → Type 0
 LeavesPending timeout events event =
     pending timeout (events ++ event ∷ [])
     ≡ filter (λ poll. is_none (settled_by events event poll)) (pending timeout events)
     ++ option_to_list (started timeout events event)
 
--- True if one more event leaves earlier outcomes unchanged and adds its own. A poll that the event
--- starts has no outcome yet.
+-- True if one more event leaves the outcomes from before this event unchanged and adds the outcomes
+-- that it causes. A poll that the event starts has no outcome yet.
 abbrev pub AddsResults : ℕ → List Event → Event → Type 0
 AddsResults timeout events event =
     results timeout [] (events ++ event ∷ [])
     ≡ map (with_event events event) (results timeout [] events)
     ++ new_result (started timeout events event)
 
--- True if a session accepts all of these events and is over after them, because of an invalid
--- length field or because it was closed.
+-- True if a polling session accepts all of these events and is over after them, because of an
+-- invalid length field or because it was closed.
 abbrev pub IsOverAfter : (timeout window : ℕ) → List Event → Type 0
 IsOverAfter timeout window events =
     AcceptsAll timeout window [] events × (is_over events ≡ true)
 
--- States that, if a longer chunk with the same beginning completes no poll, then this chunk
+-- States that, if a chunk with further bytes appended completes no poll, then the chunk alone
 -- completes no poll.
 abbrev pub SettlesNoLess : ℕ → List Event → (moment : ℕ) → (piece more : List ℕ) → Type 0
 SettlesNoLess timeout events moment piece more =

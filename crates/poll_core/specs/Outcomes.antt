@@ -43,7 +43,8 @@ outcome_code Silent = 0
 outcome_code (Malformed wrong) = malformation_number wrong
 outcome_code (Lost why) = cause_number why
 
--- The malformation that is reported for a response with this fault.
+-- The malformation (the kind of an invalid response) that the poll's outcome reports for a response
+-- with this fault.
 abbrev pub malformation_by : ReplyFault → Malformation
 malformation_by fault.WrongFunction = malformation.WrongFunction
 malformation_by fault.WrongLength = malformation.WrongLength

@@ -11,7 +11,8 @@ pub record Poll : Type 0 where
   pub span : Span
   pub deadline : ℕ
 
--- The model of a poll with these fields.
+-- The poll, as contracts describe it, with the given number, transaction identifier, unit,
+-- registers and deadline.
 abbrev pub poll_of : (number id unit : ℕ) → Span → (deadline : ℕ) → Poll
 poll_of number id unit span deadline =
     record { number = number; id = id; unit = unit; span = span; deadline = deadline }

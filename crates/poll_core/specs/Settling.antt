@@ -1,5 +1,5 @@
--- Defines when a poll of a session is completed, and by which event (Modbus Messaging on TCP/IP
--- Implementation Guide V1.0b, section 4.4.1).
+-- Defines when a poll of a polling session is completed, and by which event (Modbus Messaging on
+-- TCP/IP Implementation Guide V1.0b, section 4.4.1).
 use Rattle.std.specs.Prelude.{ℕ, ◌+◌, ◌%◌, Bool, true, false, not, ◌&&◌, ◌==◌, if◌then◌else◌, List, [], ◌∷◌, ◌++◌, map, length, drop, is_none, Some, None, Ok, Err}
 use Rattle.std.specs.declared.option.Option.{Option}
 use Rattle.std.specs.declared.result.Result.{Result}
@@ -33,14 +33,14 @@ moment_of (Piece moment bytes) = moment
 moment_of (Tick moment) = moment
 moment_of (Close moment closing) = moment
 
--- The bytes that arrive with an event. Only a `Piece` has bytes.
+-- The bytes that arrive with an event. Only a `Piece` (a received chunk) has bytes.
 abbrev pub bytes_of : Event → List ℕ
 bytes_of (Start moment poll unit span) = []
 bytes_of (Piece moment bytes) = bytes
 bytes_of (Tick moment) = []
 bytes_of (Close moment closing) = []
 
--- The cause by which an event closes the session, or `None` if the event does not close it.
+-- The cause by which an event closes the polling session, or `None` if the event does not close it.
 abbrev pub closing_of : Event → Option LostCause
 closing_of (Start moment poll unit span) = None
 closing_of (Piece moment bytes) = None
@@ -70,7 +70,8 @@ pub data Settlement : Type 0 where
   Malformed : (malformation : Malformation) → Settlement
   Lost : (cause : LostCause) → Settlement
 
--- The registers of a decoded response. A response of another kind has none.
+-- The registers of a decoded response that has registers. Any other decoded response, such as an
+-- exception, gives an empty list.
 abbrev pub words_in : Answer → List ℕ
 words_in (replies.Words words) = words
 words_in _ = []
@@ -82,8 +83,8 @@ by_reply (Ok (replies.Exception code)) = Exception code
 by_reply (Ok answer) = Answered (words_in answer)
 by_reply (Err fault) = Malformed (malformation_by fault)
 
--- The outcome of a poll for a frame with its transaction identifier. The unit identifier is checked
--- first.
+-- The outcome of a poll for a frame with the poll's transaction identifier. The unit identifier is
+-- checked first.
 abbrev pub answer : Poll → List ℕ → Settlement
 answer poll frame =
     if unit_of frame == poll.unit
@@ -99,16 +100,17 @@ unfoldable pub frames_at : List Event → Event → List (List ℕ)
 frames_at before event =
     drop (length (frames (stream before))) (frames (stream before ++ bytes_of event))
 
--- The cause by which the event ends the session: its bytes have an invalid length field, or it
--- closes the session. `None` if it does neither.
+-- The cause by which the event ends the polling session: its bytes have an invalid length field, or
+-- it closes the session. `None` if it does neither.
 unfoldable pub ending_at : List Event → Event → Option LostCause
 ending_at before event =
     if is_garbled (stream before ++ bytes_of event) && not (is_garbled (stream before))
     then Some Garbled
     else closing_of event
 
--- The outcome of a pending poll by an event after the earlier events: timeout first, then the first
--- frame with its transaction identifier, then loss. `None` if the event does not complete the poll.
+-- The outcome that one more event, after the earlier events, gives to a pending poll. The first of
+-- these causes counts: a timeout, the first frame with the poll's transaction identifier, a loss.
+-- `None` if the event does not complete the poll.
 unfoldable pub settled_by : List Event → Event → Poll → Option Settlement
 settled_by before event poll =
     if is_start event then None
@@ -116,8 +118,8 @@ settled_by before event poll =
     else option_or (option_map (answer poll) (find (is_for poll) (frames_at before event)))
     (option_map Lost (ending_at before event))
 
--- The outcome of a poll by the first later event that completes it, or `None` if no later event
--- does.
+-- The outcome of a poll by the first event after its start that completes it, or `None` if no such
+-- event does.
 abbrev pub outcome : List Event → List Event → Poll → Option Settlement
 outcome before [] poll = None
 outcome before (event ∷ later) poll =
@@ -137,21 +139,22 @@ started timeout before (Piece moment bytes) = None
 started timeout before (Tick moment) = None
 started timeout before (Close moment closing) = None
 
--- A list with the poll that an event started and the poll's outcome by the later events. The list
--- is empty if the event started no poll.
+-- A list with the poll that an event started and the poll's outcome by the events after its start.
+-- The list is empty if the event started no poll.
 abbrev pub result_of : List Event → List Event → Option Poll → List (Poll × Option Settlement)
 result_of before later None = []
 result_of before later (Some poll) = (poll, outcome before later poll) ∷ []
 
--- All polls that the later events start, in the order of the starts, each with its outcome by the
--- events after its start.
+-- All polls that the second list of events starts after the events of the first list, in the order
+-- of the starts. Each poll has its outcome by the events after its start.
 abbrev pub results : ℕ → List Event → List Event → List (Poll × Option Settlement)
 results timeout before [] = []
 results timeout before (event ∷ later) =
     result_of (before ++ event ∷ []) later (started timeout before event)
     ++ results timeout (before ++ event ∷ []) later
 
--- The polls that are pending after the events: started polls without an outcome.
+-- The polls of a Modbus session that are pending after the session processed `events`: started
+-- polls without an outcome.
 unfoldable pub pending : ℕ → List Event → List Poll
 pending timeout events =
     map (λ result. result.0) (filter (λ result. is_none result.1) (results timeout [] events))
@@ -167,17 +170,17 @@ by_frame (frame ∷ later) polls =
     map (λ poll. (poll.number, answer poll frame)) (filter (λ poll. is_for poll frame) polls)
     ++ by_frame later (filter (λ poll. not (is_for poll frame)) polls)
 
--- The polls of the list whose transaction identifier occurs in none of the frames.
+-- The polls of a list whose transaction identifier occurs in none of the given frames.
 abbrev pub unmatched : List (List ℕ) → List Poll → List Poll
 unmatched frames polls = filter (λ poll. is_none (find (is_for poll) frames)) polls
 
--- The outcomes of a list of polls if the session ended for a cause, in the order of their starts.
--- Empty if the session did not end.
+-- The outcome `Lost` for each poll of a list, in the order of the starts, if the polling session
+-- ended for a cause. Empty if the session did not end.
 abbrev pub losses : Option LostCause → List Poll → List (ℕ × Settlement)
 losses None polls = []
 losses (Some cause) polls = map (λ poll. (poll.number, Lost cause)) polls
 
--- The polls of the list whose deadline is after the given time.
+-- Among the polls of a list, those whose deadline is after the given time.
 abbrev pub alive : ℕ → List Poll → List Poll
 alive moment polls = filter (λ poll. not (due moment poll)) polls
 

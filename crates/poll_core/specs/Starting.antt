@@ -11,16 +11,16 @@ use Rattle.poll_core.specs.Standing.{State, is_over, last_moment}
 use Rattle.poll_core.specs.declared.answers.StartFault.{StartFault}
 use Rattle.poll_core.specs.declared.answers.StartFault.TheVariants.{WindowFull, IdBusy, ClockBack, Closed}
 
--- The numeric code of each fault for which a session refuses to start a poll.
+-- The numeric code of each fault for which a polling session refuses to start a poll.
 abbrev pub start_fault_number : StartFault → ℕ
 start_fault_number WindowFull = 1
 start_fault_number IdBusy = 2
 start_fault_number ClockBack = 3
 start_fault_number Closed = 4
 
--- The first fault for which a session refuses to start a poll, or `None`. The arguments are the
--- window, the pending polls, the next identifier, the latest time, whether the session is over, and
--- the time of the start.
+-- The first fault for which a polling session refuses to start a poll, or `None`. The arguments are
+-- the window, the pending polls, the next identifier, the latest time, whether the session is over,
+-- and the time of the start.
 abbrev pub least_fault : ℕ → List Poll → ℕ → ℕ → Bool → ℕ → Option StartFault
 least_fault window polls next last over moment =
     if nat_le window (length polls) then Some WindowFull
@@ -29,8 +29,8 @@ least_fault window polls next last over moment =
     else if over then Some Closed
     else None
 
--- The fault for which a session refuses to start a poll at the given time after these events, or
--- `None` if it accepts the start.
+-- The fault for which a polling session refuses to start a poll at the given time, or `None` if it
+-- accepts the start. `events` are the session's events before this start.
 abbrev pub start_fault : ℕ → ℕ → List Event → ℕ → Option StartFault
 start_fault timeout window events moment =
     least_fault window (pending timeout events) (next_id events) (last_moment events)
@@ -44,8 +44,8 @@ AsksFor tid unit span buffer n =
     take n buffer ≡ spelling tid unit (request_bytes (request_of span))
 
 -- True if one more start of a poll would succeed after the given number of further starts. The
--- session must not be over, the window must have room, and no pending poll may use this start's
--- identifier.
+-- polling session must not be over, the window must have room, and no pending poll may use this
+-- start's identifier.
 abbrev pub start_fits : ℕ → List Poll → ℕ → Bool → ℕ → Bool
 start_fits window polls next over before =
     not over && nat_lt (length polls + before) window
@@ -58,12 +58,12 @@ pub record HasRoom (session : State) (count : ℕ) : Type 0 where
   pub no_more : start_fits session.window session.polls session.next (is_some session.ending) count
       ≡ false
 
--- True if all of these events are starts of polls.
+-- True if every event in a list of a polling session's events is the start of a poll.
 abbrev pub AreStarts : List Event → Type 0
 AreStarts events = AllByRecursion (λ event. is_start event ≡ true) events
 
--- True if `id` is the next transaction identifier, the next `count` starts of polls at valid times
--- succeed, and the start after them is refused.
+-- True if `id` is the next transaction identifier, and the next `count` starts of polls succeed, at
+-- times not before the latest event. The start after them is refused.
 pub record IsReady (timeout window : ℕ) (events : List Event) (id count : ℕ) : Type 0 where
   pub next : id ≡ next_id events
   pub succeed : (starts : List Event) (moment : ℕ) → AreStarts starts → length starts < count

@@ -1,4 +1,5 @@
-//! The results of the calls of a polling session.
+//! The types of the results that the functions of a polling session return, such as a completed
+//! poll with its outcome.
 use crate::outcome::Outcome;
 use mb_wire::Reply;
 
@@ -7,7 +8,8 @@ use mb_wire::Reply;
 pub struct Settled<'a> {
     pub poll: u64,
     pub outcome: Outcome,
-    /// The response, borrowed from the session. It is present exactly if the outcome is `Answered`.
+    /// The response, borrowed from the polling session. It is present exactly if the outcome is
+    /// `Answered`.
     pub reply: Option<Reply<'a>>,
 }
 
@@ -20,27 +22,27 @@ pub struct Turn<'a> {
 }
 
 /// The next transaction identifier, and the number of consecutive starts of polls that would
-/// succeed, at times not before the session's latest time.
+/// succeed, at times not before the polling session's latest time.
 #[derive(Clone, Copy, PartialEq, Eq)]
 pub struct Ready {
     pub id: u16,
     pub count: usize,
 }
 
-/// The error of a call with a time before the latest time of the session.
+/// The error of a call with a time before the latest time of the polling session.
 #[derive(Clone, Copy, Debug, PartialEq, Eq)]
 pub struct ClockBack;
 
-/// The reason why a session refused to start a poll.
+/// The reason why a polling session refused to start a poll.
 #[derive(Clone, Copy, Debug, PartialEq, Eq)]
 pub enum StartFault {
     /// The number of pending polls has reached the greatest number allowed (the window).
     WindowFull,
     /// A pending poll uses the next transaction identifier.
     IdBusy,
-    /// The time of the call is before the latest time of the session.
+    /// The time of the call is before the latest time of the polling session.
     ClockBack,
-    /// The session was closed, or received an invalid length field.
+    /// The polling session was closed, or received an invalid length field.
     Closed,
 }
 
@@ -48,8 +50,8 @@ impl StartFault {
     ghost use Rattle.std.specs.Prelude.{◌≡◌};
     ghost use Rattle.poll_core.specs.Starting.{start_fault_number};
 
-    /// Returns the fault's numeric code, 1 to 4. If several faults apply, the fault with the lowest
-    /// code is reported.
+    /// Returns the numeric code, 1 to 4, of the fault for which the start of a poll is refused. If
+    /// several faults apply, the fault with the lowest code is reported.
     pub fn number(self) -> u8
         ensures { result ≡ start_fault_number self }
     {

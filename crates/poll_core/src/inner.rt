@@ -1,8 +1,8 @@
 //! The private fields of a polling session, and the steps of the session's calls.
 //!
-//! Contracts of `Session` mention only a model of the session, and its calls return borrowed
-//! frames. Contracts of the private steps mention the private fields, and no step returns a
-//! borrowed frame.
+//! Contracts of `Session` mention only a model of the polling session, and calls of `Session`
+//! return borrowed frames. Contracts of the private steps mention the private fields, and no
+//! private step returns a borrowed frame.
 ghost use Rattle.std.specs.Prelude.{◌≡◌, ◌+◌, ◌≤◌, ◌<◌, List, length, take, is_some, true, false};
 ghost use Rattle.std.specs.Prelude.{if◌then◌else◌, OnOk, OnErr, IfOk};
 ghost use Rattle.std.specs.Result.{result_err};
@@ -34,8 +34,8 @@ pub struct Inner {
     pub settling: Option<Call>,
 }
 
-/// The result of a session's step: the number of bytes that it consumed, and the poll that it
-/// completed, if any.
+/// The result of a polling session's step: the number of bytes that it consumed, and the poll that
+/// it completed, if any.
 #[derive(Drop)]
 pub struct Step {
     pub taken: usize,
@@ -64,8 +64,8 @@ fn call_while(taken: &Option<SettledPoll>, call: Call) -> Option<Call>
     }
 }
 
-// Returns `Garbled` as the cause of the session's end if an invalid length field arrived, otherwise
-// `None`.
+// Returns `Garbled` as the cause of the polling session's end if an invalid length field arrived,
+// otherwise `None`.
 fn ending_if(is_garbled: bool) -> Option<LostCause>
     ensures { result ≡ garbled_end is_garbled }
 {
@@ -76,8 +76,9 @@ fn ending_if(is_garbled: bool) -> Option<LostCause>
     }
 }
 
-// Returns the number of bytes that a call consumes: `taken` if it reports an outcome, because the
-// caller then passes the later bytes again. Otherwise all bytes count as consumed.
+// Returns the number of bytes that a call consumes: `taken` if the call reports an outcome, because
+// the caller then passes the later bytes again. If the call reports no outcome, all bytes count as
+// consumed.
 fn taken_if(lost: &Option<SettledPoll>, taken: usize, all: usize) -> usize
     ensures { result ≡ (if is_some lost.now then taken else all) }
 {
@@ -129,8 +130,9 @@ impl Inner {
         Ok(size)
     }
 
-    /// Returns the number of consecutive starts of polls that are now possible, at times not before
-    /// the session's latest time.
+    /// Returns the number of polls that can be started one after another now, at times not before
+    /// the session's latest time. The maximum of pending polls and the transaction identifiers in
+    /// use limit this number.
     pub fn room(&self) -> usize
         requires { IsSound self.now }
         ensures few { result ≤ self.now.window }

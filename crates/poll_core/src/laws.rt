@@ -1,5 +1,6 @@
-//! Theorems about the events of a polling session: starts of polls, received bytes, timer events,
-//! and the end of the connection.
+//! Theorems about a polling session, for any list of events (starts of polls, received bytes, timer
+//! events, and the end of the connection). For example, each started poll is completed once or is
+//! pending.
 ghost use Rattle.std.specs.Prelude.{◌≡◌, ℕ, List, [], length, slice_get};
 ghost use Rattle.std.specs.List.{All};
 ghost use Rattle.std.specs.List.Sorted.{IsPermutation};
@@ -35,14 +36,15 @@ pub fn one_event_more()
         pending timeout events ≡ [] → outcomes_at timeout events event ≡ [] }
 {}
 
-/// Theorem: each pending poll was started by one of the events, and no later event completed it.
+/// Theorem: each pending poll of a polling session was started by one of the session's events, and
+/// no later event of the session completed it.
 pub fn pending_waits()
     ensures { (timeout : ℕ) (events : List Event)
         → All (Waits timeout events) (pending timeout events) }
 {}
 
-/// Theorem: after a session received an invalid length field or was closed, the session has no
-/// pending polls, and no event completes a poll.
+/// Theorem: after a polling session received an invalid length field or was closed, the session has
+/// no pending polls, and no event completes a poll.
 pub fn over_for_good()
     ensures nobody { (timeout window : ℕ) (events : List Event) →
         IsOverAfter timeout window events → pending timeout events ≡ [] }

@@ -1,6 +1,7 @@
 //! The limits of a polling session: times, timeouts and the number of pending polls.
 
-/// The latest time that a session accepts, in seconds since 1970-01-01 UTC: the beginning of 2100.
+/// The latest time that a polling session accepts, in seconds since 1970-01-01 UTC: the beginning
+/// of 2100.
 pub const LAST_MOMENT: u64 = 4_102_444_800;
 
 /// The longest timeout of a poll, in seconds.

@@ -3,7 +3,7 @@
 use mb_wire::ReplyFault;
 
 /// The kind of a call that may have several outcomes to report. Each call reports one, and the
-/// session stores the kind until the caller has repeated the call for all outcomes.
+/// polling session stores the kind until the caller has repeated the call for all outcomes.
 #[derive(Clone, Copy, PartialEq, Eq)]
 pub enum Call {
     Piece,
@@ -23,7 +23,7 @@ pub enum Outcome {
     Silent,
     /// A frame with the poll's transaction identifier is not a valid response to its request.
     Malformed(Malformation),
-    /// The session ended before the poll was completed.
+    /// The polling session ended before the poll was completed.
     Lost(LostCause),
 }
 
@@ -48,7 +48,8 @@ pub enum LostCause {
     Garbled,
     /// A read from the connection or a write to it failed.
     Failed,
-    /// The program was restarted. A session never returns this cause.
+    /// The program was restarted while the poll had no outcome. A polling session never returns
+    /// this cause of a lost poll.
     Restart,
 }
 
@@ -78,8 +79,8 @@ impl Outcome {
         }
     }
 
-    /// Returns the exception code, or the numeric code of the malformation or of the cause of the
-    /// loss. Returns 0 for other outcomes.
+    /// Returns the second numeric code of a poll's outcome: the exception code, or the code of the
+    /// malformation or of the cause of the loss. Returns 0 for other outcomes.
     pub fn code(self) -> u8
         ensures { result ≡ outcome_code self }
     {

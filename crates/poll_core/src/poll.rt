@@ -1,4 +1,5 @@
-//! The pending polls of a session, and their completion.
+//! Types for the polls of a device that have no outcome yet, and for completed polls with the kind
+//! of event that completed them.
 use crate::outcome::LostCause;
 use mb_wire::{ReadFunction, ReadSpan, Request};
 use std::marker::Model;
@@ -84,7 +85,7 @@ impl Default for PendingPoll {
     }
 }
 
-/// The kind of event that completed a poll: a timeout, a frame, or the end of the session.
+/// The kind of event that completed a poll: a timeout, a frame, or the end of the polling session.
 #[derive(Clone, Copy, PartialEq, Eq)]
 pub enum SettledBy {
     Silence,

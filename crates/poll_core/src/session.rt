@@ -44,8 +44,8 @@ impl Model for Session {
 }
 
 impl Session {
-    /// Creates a session without events. Polls time out after `timeout` seconds, and at most
-    /// `window` polls are pending at the same time.
+    /// Creates a polling session without events. Polls time out after `timeout` seconds, and at
+    /// most `window` polls are pending at the same time.
     pub fn new(timeout: u64, window: usize) -> Self
         requires timeout_low { 1 ≤ timeout }
         requires timeout_high { timeout ≤ MAX_TIMEOUT }
@@ -79,7 +79,7 @@ impl Session {
     }
 
     /// Returns the next transaction identifier, and the number of consecutive starts of polls that
-    /// would succeed, at times not before the session's latest time.
+    /// would succeed, at times not before the polling session's latest time.
     pub fn ready(&self) -> Ready
         ensures id { result.id ≡ self.now.next }
         ensures room { HasRoom self.now result.count }
@@ -182,8 +182,8 @@ impl Session {
         Ok(self.inner.tick(moment))
     }
 
-    /// Ends the session because its connection ended. Call `close` again until it returns no
-    /// completed poll.
+    /// Ends the polling session because its connection ended. Call `close` again until it returns
+    /// no completed poll.
     pub fn close(&mut self, moment: u64, closing: Closing) -> Result<Option<Settled<'_>>, ClockBack>
         requires limit { moment ≤ LAST_MOMENT }
         requires call { IsCall (Call.Close closing) self.old moment }
@@ -213,7 +213,8 @@ impl Session {
     }
 }
 
-// Returns the completed poll, if any, with its response from the frame in the reader.
+// Returns the completed poll, if any, with its response, which is decoded from the frame in the
+// polling session's frame reader.
 fn report_any(taken: Option<SettledPoll>, reader: &FrameReader) -> Option<Settled<'_>>
     requires { CanTell taken reader.now.frame }
     ensures reported { option_map settled_of result ≡ reported_of taken reader.now.frame }
@@ -226,7 +227,8 @@ fn report_any(taken: Option<SettledPoll>, reader: &FrameReader) -> Option<Settle
     }
 }
 
-// Returns the completed poll with its response from the frame in the reader.
+// Returns the completed poll with its response, which is decoded from the frame in the polling
+// session's frame reader.
 fn report_settled(settled: SettledPoll, reader: &FrameReader) -> Settled<'_>
     requires { HasFrame settled.by reader.now.frame }
     ensures reported { settled_of result ≡ reported_by settled reader.now.frame }

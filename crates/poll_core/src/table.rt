@@ -1,4 +1,4 @@
-//! The table of a session's pending polls.
+//! Searches the table of a polling session's pending polls, and removes completed polls from it.
 ghost use Rattle.std.specs.Prelude.{◌≡◌, ℕ, ◌+◌, ◌≤◌, ◌<◌, List, length, take, true, false, ◌%◌};
 ghost use Rattle.std.specs.Prelude.{IsSome, Option};
 ghost use Rattle.std.specs.List.{list_any};
@@ -84,8 +84,8 @@ pub fn take_by_id(polls: &mut Table, id: u16) -> Option<PendingPoll>
     }
 }
 
-// Removes and returns the first poll that has timed out. If no poll has timed out and the session
-// ended, removes and returns the first poll as lost.
+// Removes and returns the first poll that has timed out. If no poll has timed out and the polling
+// session ended, removes and returns the first poll as lost.
 pub fn take_owed(polls: &mut Table, ending: Option<LostCause>, moment: u64) -> Option<SettledPoll>
     ensures reported { ReportsOwed moment ending polls.old.items result polls.new.items }
     ensures by_itself { (frame : Option (List ℕ)) → CanTell result frame }
@@ -111,7 +111,8 @@ pub fn take_owed(polls: &mut Table, ending: Option<LostCause>, moment: u64) -> O
     }
 }
 
-// Removes and returns the poll with the transaction identifier of the frame in the reader, if any.
+// Removes and returns the pending poll with the transaction identifier of the frame in the frame
+// reader. Returns `None` if no pending poll has this identifier.
 fn take_framed(reader: &FrameReader, polls: &mut Table) -> Option<PendingPoll>
     requires buffered { IsSome reader.now.frame }
     requires apart { AreApart polls.old.items }
@@ -126,8 +127,9 @@ fn take_framed(reader: &FrameReader, polls: &mut Table) -> Option<PendingPoll>
     take_by_id(polls, frame.tid)
 }
 
-/// The result of `feed_until`: the number of bytes consumed, whether these bytes end with an
-/// invalid length field, and the poll that a frame completed, if any.
+/// The result of `feed_until`, which feeds a chunk to the frame reader. It has the number of bytes
+/// consumed, whether these bytes end with an invalid length field, and the poll that a frame
+/// completed, if any.
 #[derive(Drop)]
 pub struct Found {
     pub taken: usize,
@@ -135,8 +137,8 @@ pub struct Found {
     pub poll: Option<PendingPoll>,
 }
 
-// Feeds `piece` to the reader, up to the first frame that completes a poll, and removes that poll
-// from the table.
+// Feeds the bytes `piece` to the frame reader, up to the first frame that completes a pending poll,
+// and removes that poll from the table of pending polls.
 pub fn feed_until(reader: &mut FrameReader, polls: &mut Table, piece: &[u8]) -> Found
     requires { AreApart polls.old.items }
     ensures apart { AreApart polls.new.items }

@@ -10,7 +10,8 @@ pub enum Kind {
     Refused,
     /// `held METER RAW cause 6`: a reading was rejected. It is stored, and adds no energy.
     Held,
-    /// `poll 7 lost 1`: the session with the device ended before the poll had an outcome.
+    /// `poll 7 lost 1`: the polling session (of one connection to the device) ended before the poll
+    /// had an outcome.
     Lost,
     /// `poll 7 malformed 5`: the response of a device was malformed.
     Malformed,
@@ -39,8 +40,8 @@ static KINDS: [Kind; 9] = [
     Kind::Status,
 ];
 
-/// Returns all kinds of printed numeric codes, in the order in which `kind_named` searches them for
-/// a word.
+/// Returns the kinds of numeric codes that the program prints (refusals, losses, exit statuses,
+/// ..). They are in the order in which the function `kind_named` compares them with a word.
 pub fn kinds() -> &'static [Kind]
     ensures { result.now ≡ kinds }
 {

@@ -7,8 +7,9 @@ use crate::tables::{
     chain_fault, exception, exit_status, hold, http_fault, loss, malformation, refusal, row_fault,
 };
 
-/// The meaning of a printed numeric code, its usual cause, and its remedy. Each text is a sentence
-/// that begins with a small letter and has no full stop.
+/// The meaning of a numeric code that the program prints, such as a refusal's code, its usual
+/// cause, and its remedy. Each text is a sentence that begins with a small letter and has no full
+/// stop.
 #[derive(Clone, Copy)]
 pub struct Meaning {
     pub kind: Kind,
@@ -18,7 +19,8 @@ pub struct Meaning {
     pub remedy: &'static str,
 }
 
-/// Returns the meaning of a printed numeric code, or `None` if the kind does not have this code.
+/// Returns the meaning of a printed numeric code of the given kind (for example, the cause of a
+/// lost poll). `None` if no code of this kind has this number.
 pub fn meaning_of(kind: Kind, number: u32) -> Option<&'static Meaning>
     ensures has { is_some result ≡ has_number kind number }
     ensures own { IfSome result (IsMeaningOf kind number) }

@@ -1,6 +1,6 @@
--- Lemmas about the items (ranges that one read must contain) at which reads start. Either the next
--- item lies within 125 registers from the start of the last read so far, or a new read starts
--- there.
+-- Lemmas about the items (register ranges that one read must contain) at which reads start. Either
+-- the next item lies within 125 registers from the start of the last read so far, or a new read
+-- starts at this item.
 use Rattle.std.proofs.Common.{◌≡◌, ◌∙◌, ℕ, ◌+◌, ◌-◌, ◌<◌, ◌≤◌, ◌⊎◌, List, [], ◌∷◌, ◌++◌, length, get_or, take, sym, refl, ap, arith, inl, inr, subst}
 use Rattle.std.specs.List.{AllPairs, Any, Contains}
 use Rattle.std.proofs.lemmas.Bool.{cases_lt, cases_eq}
@@ -21,8 +21,9 @@ same-function HoldingRegisters InputRegisters e = absurd (omega (arith, e))
 same-function InputRegisters HoldingRegisters e = absurd (omega (arith, e))
 same-function InputRegisters InputRegisters e = refl
 
--- Of two register ranges, one comes before the other, or both begin at the same register of the
--- same area.
+-- Of two register ranges, there are two cases. Either one comes before the other by function, area
+-- number and first register, or both have the same function, area number and first register. (No
+-- read has registers of two areas.)
 pub before-or-same : (a b : Run) → ComesBefore a b ⊎ (ComesBefore b a ⊎ (SameArea a b × (a.first ≡ b.first)))
 before-or-same a b = elim (cases_lt (code_of a.function) (code_of b.function)) [
   | inl l ↦ inl (inl l)
@@ -48,8 +49,9 @@ before-or-same a b = elim (cases_lt (code_of a.function) (code_of b.function)) [
   ]
 ]
 
--- If a range is ordered between two ranges of one area (function and area number), then it is in
--- the same area.
+-- Suppose that a range lies between two ranges in the order by function, area number and first
+-- register. If these two have the same function and area number, the range has them too. Points
+-- with different area numbers are never in one Modbus read.
 pub same-between : (a l x : Run) → ComesBefore a l → ¬ ComesBefore x l → SameArea a x → SameArea a l
 same-between a l x (inl f) never s = absurd (never (inl (subst (λ (t : ReadFunction). code_of t < code_of l.function) s.function f)))
 same-between a l x (inr (inl h)) never s = absurd (never (inr (inl (sym s.function ∙ h.0, subst (λ (n : ℕ). n < l.area) s.area h.1))))
@@ -58,8 +60,9 @@ same-between a l x (inr (inr h)) never s = h.0
 pub not-before : (a x : Run) → ¬ ComesBefore x a → SameArea a x → a.first ≤ x.first
 not-before a x never s = elim (cases_lt x.first a.first) [ inl l ↦ absurd (never (inr (inr (same_area-sym a x s, l)))) | inr ge ↦ ge ]
 
--- If a list is sorted, an element of the list is never ordered before an element with a smaller
--- index.
+-- If a list of ranges is sorted by function, area number and first register, then an element of the
+-- list is never ordered before an element with a smaller index. (No read has registers of two
+-- areas.)
 pub in-front : (sorted : List Run) (n : ℕ) (x : Run) → n < length sorted → x ≡ get_or sorted n x → AllPairs (λ a b. ¬ ComesBefore b a) sorted
     → (a : Run) → Contains (take n sorted) a → ¬ ComesBefore x a
 in-front sorted n x within is ordered a w less =
@@ -68,8 +71,8 @@ in-front sorted n x within is ordered a w less =
     let same : get_or sorted w.0 x ≡ a = get_or_default sorted w.0 x a (omega (arith, below, within)) ∙ sym (get_or-take n sorted w.0 a below) ∙ w.2 in
     ordered w.0 n x below within (subst (λ (r : Run). ComesBefore r (get_or sorted w.0 x)) is (subst (λ (r : Run). ComesBefore x r) (sym same) less))
 
--- If an item does not lie within 125 registers from the start of the last read so far, this holds
--- for each earlier read too.
+-- If an item (a register range) does not lie within 125 registers from the start of the last read
+-- so far, the same is true for each earlier read.
 pub apart-from-each : (sorted found : List Run) (n : ℕ) (x : Run) → n < length sorted → x ≡ get_or sorted n x → AllPairs (λ a b. ¬ ComesBefore b a) sorted
     → IsReadable x → AreBeginnings (take n sorted) found → ((d : Run) → 0 < length found → ¬ LiesWithinReach (get_or found (length found - 1) d) x)
     → (k : ℕ) (d : Run) → k < length found → BeginsApart (get_or found k d) x
@@ -110,8 +113,9 @@ apart-from-each sorted found n x within is ordered readable so_far beyond k d be
     not-lower a l (inr (inl h)) s ge = let e = s.area in let o = h.1 in omega (arith, e, o)
     not-lower a l (inr (inr h)) s ge = let o = h.1 in omega (arith, ge, o)
 
--- Suppose that the next item does not lie within 125 registers from the start of the last read so
--- far. Then it is correct that a new read starts at this item.
+-- Suppose that the next item (a register range) does not lie within 125 registers from the start of
+-- the last planned read. Then, by the definition of where reads begin, a new read starts at this
+-- item.
 pub beginnings-push : (sorted found : List Run) (n : ℕ) (x : Run) → n < length sorted → x ≡ get_or sorted n x → AllPairs (λ a b. ¬ ComesBefore b a) sorted
     → IsReadable x → AreBeginnings (take n sorted) found → ((d : Run) → 0 < length found → ¬ LiesWithinReach (get_or found (length found - 1) d) x)
     → AreBeginnings (take (n + 1) sorted) (found ++ (x ∷ []))
@@ -132,8 +136,8 @@ beginnings-push sorted found n x within is ordered readable so_far beyond =
     any-append : (P : Run → Type 0) (xs ys : List Run) → Any P xs → Any P (xs ++ ys)
     any-append P xs ys w = let c = Contains-append_left xs ys w.1 (w.0, w.2, w.3) in (c.0, w.1, c.1, c.2, w.4)
 
--- Suppose that the next item lies within 125 registers from the start of any read so far. Then it
--- is correct that no new read starts at this item.
+-- Suppose that the next item (a register range) lies within 125 registers from the start of a
+-- planned read. Then, by the definition of where reads begin, no new read starts at this item.
 pub beginnings-skip : (sorted found : List Run) (n : ℕ) (x : Run) → n < length sorted → x ≡ get_or sorted n x
     → AreBeginnings (take n sorted) found → Any (λ begin. LiesWithinReach begin x) found → AreBeginnings (take (n + 1) sorted) found
 beginnings-skip sorted found n x within is so_far reached =

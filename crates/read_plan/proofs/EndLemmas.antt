@@ -1,5 +1,5 @@
--- Proves that a binary search in items sorted by their ends finds the greatest end within 125
--- registers from the start of a read.
+-- Proves that a binary search in items (register ranges) sorted by their ends finds the greatest
+-- end within 125 registers from the start of a read.
 use Rattle.std.proofs.Common.{◌≡◌, ◌∙◌, ℕ, ◌+◌, ◌-◌, ◌<◌, ◌≤◌, ◌⊎◌, true, false, List, length, get_or, sym, refl, ap, arith, inl, inr, subst, eqb, ltb, leb}
 use Rattle.std.specs.Prelude.{◌&&◌, ◌||◌}
 use Rattle.std.specs.List.{AllPairs, Contains}
@@ -50,8 +50,9 @@ ends_by-true run limit e (inl l) = grind (arith, nat_tests)
 ends_by-true run limit e (inr (inl h)) = let f = ap code_of h.0 in let l = h.1 in grind (arith, nat_tests)
 ends_by-true run limit e (inr (inr h)) = let f = ap code_of h.0.function in let a = h.0.area in let l = h.1 in grind (arith, nat_tests)
 
--- If the range `l` ends before the range `x`, and the range `y` does not end before `x`, then `l`
--- ends before `y`.
+-- Suppose that ranges are ordered by function, area number (no read has registers of two areas) and
+-- last register. If the range `l` ends before the range `x`, and the range `y` does not end before
+-- `x`, then `l` ends before `y`.
 pub ends-before-further : (l x y : Run) → EndsBefore l x → ¬ EndsBefore y x → EndsBefore l y
 ends-before-further l x y (inl f) never = inl (elim (cases_lt (code_of y.function) (code_of x.function)) [ inl o ↦ absurd (never (inl o)) | inr ge ↦ omega (arith, f, ge) ])
 ends-before-further l x y (inr (inl h)) never =
@@ -105,8 +106,9 @@ ends-partitioned ended limit ordered i j d below within e = elim (cases_eq i j) 
       ]
 ]
 
--- If a range is ordered by its end between two ranges of one area (function and area number), then
--- it is in the same area.
+-- Suppose that a range lies between two ranges in the order by function, area number (no read has
+-- registers of two areas) and last register. If these two have the same function and area number,
+-- the range has them too.
 area-between : (b i l : Run) → SameArea b l → ¬ EndsBefore l i → ¬ EndsBefore i b → SameArea b i
 area-between b i l s after before =
     let f = ap code_of s.function in
@@ -124,8 +126,8 @@ area-between b i l s after before =
       ]
     ]
 
--- In items sorted by their ends, the last item that ends at or before a limit has the greatest of
--- these ends. The limit is 125 registers after the start of the read.
+-- In a list of items (register ranges) sorted by their ends, the last item that ends at or before a
+-- limit has the greatest such end. The limit is 125 registers after the start of the read.
 pub greatest-end : (ended : List Run) (begin limit : Run) (count : ℕ) → AllPairs (λ a b. ¬ EndsBefore b a) ended → SameArea begin limit → limit.end ≡ begin.first + 125
     → Contains ended begin → begin.end ≤ begin.first + 125 → count ≤ length ended
     → IsPartitionPoint (λ r. ends_by r limit ≡ true) (λ r. ends_by r limit ≡ false) ended count

@@ -1,5 +1,5 @@
--- Checks the definition of a read plan by examples: two plans, and reads with the least and the
--- greatest number of registers.
+-- Checks the definition of a plan of Modbus reads by examples: two plans, and reads with the least
+-- and the greatest number of registers.
 use native.Mathlib.Omega.{arith}
 use Rattle.std.proofs.Common.{◌≡◌, ℕ, zero, suc, ◌<◌, ◌≤◌, List, [], ◌∷◌, get_or, take, refl, ap, inl, inr}
 use Rattle.std.specs.List.{All, AllPairs}
@@ -7,14 +7,15 @@ use Rattle.mb_wire.specs.declared.span.ReadFunction.TheVariants.{HoldingRegister
 use Rattle.read_plan.specs.declared.run.Run.{Run}
 use Rattle.read_plan.specs.Plans.{SameArea, Holds, IsContained, IsReadable, LiesWithinReach, ComesBefore, BeginsAtFirstUnheld, EndsAtLastInReach, FollowsRule}
 
--- An example range of holding registers, with area number 0.
+-- An example range of holding registers from `first` to before `end`, in area 0. Points of
+-- different areas are never in one Modbus read.
 abbrev run : (first end : ℕ) → Run
 run first end = record { function = HoldingRegisters; area = 0; first = first; end = end }
 
 alike : (a b c d : ℕ) → SameArea (run a b) (run c d)
 alike a b c d = record { function = refl; area = refl }
 
--- A read has 1 to 125 registers.
+-- Examples: a read of 125 registers is valid, and reads of 126 or 0 registers are invalid.
 
 most_registers : IsReadable (run 0 125)
 most_registers = (omega arith, omega arith)

@@ -1,5 +1,6 @@
--- Proves that each item of a point list fits in one read and lies within the registers of its area.
--- An item is the range of a point and its scale factor.
+-- Proves that each item of a point list fits in one read and lies inside its area. An item is the
+-- range of a point and its scale factor. Its area has the registers of all points with its function
+-- and area number. No read has registers of two areas.
 use Rattle.std.proofs.Common.{◌≡◌, ◌∙◌, ℕ, suc, [], ◌∷◌, ◌<◌, ◌≤◌, Bool, List, length, map, get_or, sym, refl, ap, arith, inl, inr, subst, Some, None, IsSomeAnd}
 use Rattle.std.specs.declared.option.Option.{Option}
 use Rattle.std.specs.List.{All, Any, Contains, find}
@@ -17,7 +18,7 @@ use Rattle.read_plan.specs.Items.{item_of, items_of, point_run, runs_of, with_sc
 use Rattle.read_plan.specs.PlannedReads.{BeginsInside}
 use Rattle.read_plan.specs.Plans.{IsInArea, IsReadable, SameArea}
 
--- A search that succeeds returns an element of the list.
+-- If a search in a list of points succeeds, it returns a point of the list.
 found-among : (test : ListedPoint → Bool) (points : List ListedPoint) (q : ListedPoint) → find test points ≡ Some q → Contains points q
 found-among test [] q e = cc e
 found-among test (p ∷ ps) q e = elim (cases_Bool (test p)) [
@@ -29,8 +30,8 @@ any-run : (P : Run → Type 0) (points : List ListedPoint) (p : ListedPoint) →
 any-run P points p w h =
     (w.0, point_run p, omega (arith, w.1, length-map points point_run), get_or-map point_run points w.0 p (point_run p) w.1 ∙ ap point_run w.2, h)
 
--- The properties of a point's item. The item is the single range of registers that covers both the
--- point and its scale point.
+-- The properties of a point's item, the single range of registers that covers both the point and
+-- its scale point. One read can contain the item, and the point's first register lies inside it.
 pub record ItemFacts (points : List ListedPoint) (p : ListedPoint) (item : Run) : Type 0 where
   pub readable : IsReadable item
   pub inside : item.end ≤ 65536

@@ -1,5 +1,6 @@
--- Proves that reads that follow the planning rule form a valid plan if each item (a point and its
--- scale factor) fits in one read.
+-- Proves that reads by the planning rule form a valid plan if each item (a point and its scale
+-- factor, which one read must contain) fits in one read. By the rule, each read begins at the first
+-- uncovered register and covers as much as possible.
 use Rattle.std.proofs.Common.{◌≤◌, List, get_or, arith}
 use Rattle.std.specs.List.{All, Any}
 use Rattle.read_plan.specs.declared.run.Run.{Run}

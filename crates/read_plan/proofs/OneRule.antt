@@ -35,8 +35,8 @@ after_both x y r (inr (inr a)) (inl b) = inl (omega (arith, same_function x y a.
 after_both x y r (inr (inr a)) (inr (inl b)) = inr (inl (a.0.function ∙ b.0, omega (arith, a.0.area, b.1)))
 after_both x y r (inr (inr a)) (inr (inr b)) = inr (inr (same_area-trans x y r a.0 b.0, omega (arith, a.1, b.1)))
 
--- In a sorted list of reads, a range that is ordered before one read is also ordered before each
--- later read.
+-- In a list of reads sorted by function, area number and first register, a range that comes before
+-- one read also comes before each later read. No read has registers of two areas.
 before_later : (ys : List Run) (x : Run) (k j : ℕ) (d : Run) → AllPairs ComesBefore ys → k ≤ j → j < length ys
     → ComesBefore x (get_or ys k d) → ComesBefore x (get_or ys j d)
 before_later ys x k j d ordered le lt before =
@@ -51,8 +51,10 @@ contained_item : (reads items : List Run) (item : Run) (k : ℕ) → All (IsCont
     → IsContained reads item
 contained_item reads items item k all lt is = subst (IsContained reads) is (all k item lt)
 
--- Suppose that two plans follow the planning rule and have the same first `k` reads. Then the next
--- read of the first plan is not ordered before that of the second.
+-- Suppose that two plans follow the planning rule (each read begins at the first uncovered register
+-- and covers as much as possible) and have the same first `k` reads. Then the next read of the
+-- first plan does not come before that of the second (by function, area number and first register;
+-- no read has registers of two areas).
 not_before : (items xs ys : List Run) (k : ℕ) (d : Run) → FollowsRule items xs → FollowsRule items ys → k < length xs → k < length ys
     → take k xs ≡ take k ys → ComesBefore (get_or xs k d) (get_or ys k d) → ⊥
 not_before items xs ys k d hx hy there here same before =
@@ -120,8 +122,9 @@ same_front items xs ys (suc k) hx hy there here =
     ∙ ap (λ (r : Run). take k ys ++ r ∷ []) (same_read items xs ys k a_run hx hy in_xs in_ys same)
     ∙ sym (take_more ys k a_run in_ys) ∙ ap (λ n. take n ys) next
 
--- If two plans for the same items (register ranges) follow the planning rule, then neither plan has
--- fewer reads than the other.
+-- If two plans for the same items (register ranges) follow the planning rule, neither has fewer
+-- reads than the other. By the rule, each read begins at the first uncovered register and covers as
+-- much as possible.
 no_longer : (items xs ys : List Run) → FollowsRule items xs → FollowsRule items ys → length xs < length ys → ⊥
 no_longer items xs ys hx hy less =
     let n : ℕ = length xs in

@@ -1,4 +1,6 @@
--- Lemmas about register ranges sorted by function, area number and register.
+-- Lemmas on the order of register ranges by function, area number (no read has registers of two
+-- areas) and register. The order is total, and in a sorted list no range is less than an earlier
+-- one.
 use Rattle.std.proofs.Common.{◌≡◌, ℕ, ◌<◌, ◌⊎◌, true, false, List, length, get_or, sym, refl, arith, inl, inr, Bor, Ordering}
 use Rattle.std.specs.Cmp.{IsTotalOrder, nat_cmp_is}
 use Rattle.std.specs.Fn.{Called, ComputesKey}
@@ -26,8 +28,9 @@ key_cmp-total =
 abbrev pub key_of : (Run → ℕ) → Run → Key
 key_of register run = (code_of run.function, run.area, register run)
 
--- If a list of ranges is sorted, a range of the list is never less than a range with a smaller
--- index.
+-- Suppose that a list of register ranges is sorted by function, area number and a register. Then a
+-- range of the list is never less than a range with a smaller index. (No read has registers of two
+-- areas.)
 pub sorted-far : (register : Run → ℕ) {F : Type 0} {g : Mut F (Bor Run × Unit {0}) Key} {f : F} (xs : List Run)
     → ((key : Run → Key) → ComputesKey g key f → IsSortedByKey key key_cmp xs)
     → ((a : Bor Run × Unit {0}) (r : Key) (f' : F) → Called g f a r f' → (r ≡ key_of register a.0.now) × (f' ≡ f))
@@ -43,7 +46,9 @@ nat_cmp-less a b l = sym (nat_cmp_is a b Less l)
 nat_cmp-same : (a b : ℕ) → a ≡ b → nat_cmp a b ≡ Equal
 nat_cmp-same a b e = sym (nat_cmp_is a b Equal e)
 
--- A key is less than another if its first differing number is less.
+-- Register ranges are compared by a key of three numbers: function, area number (no read has
+-- registers of two areas), register. A key is less than another if it has the smaller number where
+-- the keys first differ.
 pub key_cmp-less : (a b : Key) → (a.0 < b.0) ⊎ ((a.0 ≡ b.0) × (a.1 < b.1)) ⊎ ((a.0 ≡ b.0) × (a.1 ≡ b.1) × (a.2 < b.2)) → is_lt (key_cmp a b) ≡ true
 key_cmp-less a b (inl l) = rw (nat_cmp-less a.0 b.0 l) refl
 key_cmp-less a b (inr (inl h)) = rw (nat_cmp-same a.0 b.0 h.0, nat_cmp-less a.1 b.1 h.1) refl

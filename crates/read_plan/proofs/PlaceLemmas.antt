@@ -1,5 +1,5 @@
 -- Proves that a binary search in reads sorted by their ends finds the first read that contains an
--- item.
+-- item (a range of registers that one read must contain).
 use Rattle.std.proofs.Common.{◌≡◌, ◌∙◌, ℕ, ◌<◌, ◌≤◌, Bool, true, false, List, length, [], ◌∷◌, get_or, sym, refl, ap, arith, inl, inr, subst, not}
 use Rattle.std.specs.List.{All}
 use Rattle.std.specs.List.Sorted.{IsPartitionedBy, IsPartitionPoint}
@@ -23,7 +23,8 @@ module _ (items runs : List Run) (rule : FollowsRule items runs) (readable : All
   abbrev run_at : ℕ → Run
   run_at k = get_or runs k anything
 
-  -- Of two reads in one area, the later read ends at a higher register.
+  -- Of two reads of a plan with the same function and area number, the read with the greater index
+  -- ends at a higher register. Points with different area numbers are never in one read.
   ends-rise : (i j : ℕ) → i < j → j < length runs → SameArea (run_at i) (run_at j) → (run_at i).end < (run_at j).end
   ends-rise i j below within area =
       let r = run_at i in
@@ -42,7 +43,8 @@ module _ (items runs : List Run) (rule : FollowsRule items runs) (readable : All
             absurd (at.4.2 (any-take (λ read. Holds read b) runs j i anything below (omega (arith, within)) contained))
       ]
 
-  -- If a read ends before an item, each earlier read ends before the item too.
+  -- If a read of a plan ends before an item (a register range), each read with a smaller index ends
+  -- before the item too.
   ends-before-back : (i j : ℕ) (x : Run) → i < j → j < length runs → EndsBefore (run_at j) x → EndsBefore (run_at i) x
   ends-before-back i j x below within ends = by (rule.ordered i j anything below within) ends
     where

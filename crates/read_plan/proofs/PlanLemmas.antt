@@ -30,7 +30,9 @@ any-take {X} P xs k j d below within p =
       p,
     )
 
--- Of two ranges in one area, the range that is ordered first begins at the lower register.
+-- Of two register ranges with the same function and area number, the range that comes first (by
+-- function, area number and first register) begins at the lower register. No read has registers of
+-- two areas.
 pub first-before : (a b : Run) → ComesBefore a b → SameArea a b → a.first < b.first
 first-before a b (inl f) s = let e = ap code_of s.function in absurd (omega (arith, e, f))
 first-before a b (inr (inl h)) s = let e = s.area in absurd (omega (arith, e, h.1))

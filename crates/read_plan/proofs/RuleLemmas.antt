@@ -42,8 +42,9 @@ module _ (items begins reads : List Run) (readable : All IsReadable items) (from
   abbrev read_at : ℕ → Run
   read_at k = get_or reads k anything
 
-  -- Suppose that an item begins before the start of a read in the item's area. Then the item lies
-  -- within 125 registers from the start of an earlier read.
+  -- Suppose that an item (a register range) begins before the start of a read with the same
+  -- function and area number (no read has registers of two areas). Then the item lies within 125
+  -- registers from the start of an earlier read.
   earlier : (x : Run) (k : ℕ) → k < length begins → SameArea (begin_at k) x → x.first < (begin_at k).first → Any (λ b. LiesWithinReach b x) begins
       → (j : ℕ) × (j < k) × LiesWithinReach (begin_at j) x
   earlier x k within area lower w =
@@ -65,8 +66,8 @@ module _ (items begins reads : List Run) (readable : All IsReadable items) (from
         ]
       ]
 
-  -- A read contains each item (a range that one read must contain) that lies within 125 registers
-  -- from the start of the read.
+  -- A read of the plan contains each item (a range that one read must contain) that lies within 125
+  -- registers from the start of this read.
   holds-reach : (x : Run) → Contains items x → (j : ℕ) → j < length begins → LiesWithinReach (begin_at j) x → Holds (read_at j) x
   holds-reach x among j within reach =
       let f = each j within in
@@ -78,8 +79,9 @@ module _ (items begins reads : List Run) (readable : All IsReadable items) (from
         to_end = all-at (λ item. SameArea (begin_at j) item → item.end ≤ (begin_at j).first + 125 → item.end ≤ (read_at j).end) items f.end.last x among reach.same_area reach.in_reach;
       }
 
-  -- Suppose that a later read starts at an item (a range of registers). Then each earlier read in
-  -- the same area ends before the end of this item.
+  -- Suppose that a later read starts at an item (a range of registers). Then each earlier read with
+  -- the same function and area number (no read has registers of two areas) ends before the end of
+  -- this item.
   unreached : (j k : ℕ) → j < k → k < length begins → SameArea (begin_at j) (begin_at k) → (read_at j).end < (begin_at k).end
   unreached j k below within area =
       let a = (from.apart j k anything below within).1 area in
@@ -175,8 +177,8 @@ module _ (items begins reads : List Run) (readable : All IsReadable items) (from
         );
   }
 
--- If reads begin and end as computed from the sorted items (register ranges), then they follow the
--- planning rule for these items in any order.
+-- Suppose that Modbus reads begin and end as computed from sorted items (register ranges). Then
+-- they satisfy `FollowsRule`, the contract of read planning, for these items in any order.
 pub rule-of-sorted : (items sorted ended begins reads : List Run) → IsPermutation items sorted → IsPermutation items ended → All IsReadable items → AreBeginnings sorted begins
     → AllZip (ReadsFrom ended) begins reads → FollowsRule items reads
 rule-of-sorted items sorted ended begins reads same-sorted same-ended readable from zipped =

@@ -1,5 +1,6 @@
--- Lemmas about the map from names of scale points (scale factor registers) to their register
--- ranges. A loop over the point list builds the map, from the last point to the first.
+-- Lemmas: a loop visits a point list from its last point to its first, and stores the register
+-- ranges of scale points (scale factors) by name. The resulting map has the first scale point of
+-- each name.
 use Rattle.std.proofs.Common.{◌≡◌, ◌∙◌, ℕ, Bool, true, false, List, [], ◌∷◌, ◌++◌, Bor, ap, cond, map, refl, reverse, subst, sym, Some, None}
 use Rattle.std.specs.Prelude.{◌&&◌}
 use Rattle.std.specs.declared.option.Option.{Option}
@@ -42,9 +43,9 @@ scale-first points before after p scale runs puts name =
     ∙ ap (cond (bytes_eq p.name name) (Some (point_run p))) (runs name)
     ∙ chosen (is_sunssf p.kind) (bytes_eq p.name name) p (scale_point points name) scale
 
--- The loop visits the point list from its last point to its first. After it stores one more scale
--- point (a scale factor register), the map has the first scale point of each name among the visited
--- points.
+-- A loop visits the point list from its last point to its first, and stores scale points (scale
+-- factor registers) in a map. After each of them, the map has the first scale point of each name
+-- among the visited points.
 pub scale-read : (yielded : List (Bor ListedPoint)) (p : Bor ListedPoint) (before after : BTreeMap (Bor (List ℕ)) Run) (name : List ℕ) (run : Run) → is_sunssf p.now.kind ≡ true
     → name ≡ p.now.name → run ≡ point_run p.now
     → AreScaleRuns (points-read yielded) before → Puts before after name run → AreScaleRuns (points-read (yielded ++ p ∷ [])) after
@@ -61,12 +62,12 @@ missing-run run None e = refl
 missing-run run (Some q) e = absurd (none-some (point_run q) (sym e))
 
 module _ (points : List ListedPoint) (runs : BTreeMap (Bor (List ℕ)) Run) (right : AreScaleRuns points runs) (p : ListedPoint) (name : List ℕ) (named : p.scale ≡ Named name) where
-  -- If the map has the scale factor register that a point names, then the point's item is the range
-  -- that contains both.
+  -- Suppose that the map of scale factors has the name that a point's scale gives. Then the point's
+  -- item is the smallest range that contains the point and this scale factor.
   pub item-found : (scale : Run) → run_named runs name ≡ Some scale → item_of points p ≡ joined (point_run p) scale
   item-found scale e = ap (with_scale_of points (point_run p)) named ∙ found-run (point_run p) scale (scale_point points name) (sym (right name) ∙ e)
 
-  -- If the map does not have the scale factor register that a point names, then the point's item is
-  -- its own range.
+  -- An item is the smallest register range with a point and its scale point. If the map of scale
+  -- factors lacks the name of a point's scale, the item is only the point's own range.
   pub item-missing : run_named runs name ≡ None → item_of points p ≡ point_run p
   item-missing e = ap (with_scale_of points (point_run p)) named ∙ missing-run (point_run p) (scale_point points name) (sym (right name) ∙ e)

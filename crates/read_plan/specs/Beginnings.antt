@@ -8,8 +8,8 @@ use Rattle.mb_wire.specs.Spans.{code_of}
 use Rattle.read_plan.specs.Plans.{ComesBefore, LiesWithinReach, SameArea}
 
 -- True if a read that begins at the first range cannot contain the second, later range. The second
--- range is in another area, or ends beyond 125 registers from the first register of the first
--- range.
+-- range has another function or area number, or ends beyond 125 registers from the first register
+-- of the first range.
 abbrev pub BeginsApart : Run → Run → Type 0
 BeginsApart a b = ComesBefore a b × (SameArea a b → a.first + READ_LIMIT < b.end)
 
@@ -20,16 +20,17 @@ pub record AreBeginnings (items found : List Run) : Type 0 where
   pub apart : AllPairs BeginsApart found
   pub reach : All (λ item. Any (λ begin. LiesWithinReach begin item) found) items
 
--- True if the range is at or before the limit, ordered by function, then by area number, then by
--- last register.
+-- True if the range is at or before the range `limit`, ordered by function, then by area number,
+-- then by last register. Points with different area numbers are never in one read.
 abbrev pub ends_by : Run → Run → Bool
 ends_by run limit =
     nat_lt (code_of run.function) (code_of limit.function)
     || (code_of run.function == code_of limit.function)
     && (nat_lt run.area limit.area || (run.area == limit.area) && nat_le run.end limit.end)
 
--- True if `end` is the greatest end of the ranges of `items` in the area of `begin` that end within
--- 125 registers from the start of `begin`.
+-- True if `end` is the greatest end of those ranges of `items` that end within 125 registers from
+-- the start of `begin`. Only ranges with the function and area number of `begin` count (no read has
+-- registers of two areas).
 pub record IsGreatestEnd (items : List Run) (begin : Run) (end : ℕ) : Type 0 where
   pub at_item : Any
       (λ item. SameArea begin item × (item.end ≤ begin.first + READ_LIMIT) × (item.end ≡ end)) items
@@ -37,7 +38,7 @@ pub record IsGreatestEnd (items : List Run) (begin : Run) (end : ℕ) : Type 0 w
       (λ item. SameArea begin item → item.end ≤ begin.first + READ_LIMIT → item.end ≤ end) items
 
 -- True if the read starts at the first register of the range `begin`. The read must end at the
--- greatest end of those ranges of `items` that end within 125 registers.
+-- greatest end of those ranges of `items` that end within 125 registers from this start.
 pub record ReadsFrom (items : List Run) (begin read : Run) : Type 0 where
   pub same_area : SameArea begin read
   pub first : begin.first ≡ read.first

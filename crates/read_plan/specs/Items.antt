@@ -23,7 +23,8 @@ point_run point =
       end = end_of point;
     }
 
--- The smallest range that contains two register ranges of the same area (function and area number).
+-- The smallest range that contains two register ranges of the same area (function and area number;
+-- no read has registers of two areas).
 abbrev pub joined : Run → Run → Run
 joined a b = record {
   function = a.function;
@@ -66,6 +67,6 @@ abbrev pub items_of : List ListedPoint → List Run
 items_of points = map (item_of points) points
 
 -- The register ranges of all points of a list. They determine where each area (function and area
--- number) begins and ends.
+-- number; no read has registers of two areas) begins and ends.
 abbrev pub runs_of : List ListedPoint → List Run
 runs_of points = map point_run points

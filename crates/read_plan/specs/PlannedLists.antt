@@ -18,6 +18,7 @@ pub record IsPlanned (list : Planned) : Type 0 where
   pub points : IsPointList list.points
   pub rule : FollowsRule (items_of list.points) (read_runs list.reads)
 
--- States that at most one plan for each list of points follows the planning rule.
+-- States that at most one plan for each list of points follows the planning rule. By the rule, each
+-- read begins at the first uncovered register and covers as much as possible.
 abbrev pub ListsArePlannedOnce : Type 0
 ListsArePlannedOnce = (a b : Planned) → IsPlanned a → IsPlanned b → a.points ≡ b.points → a ≡ b

@@ -16,7 +16,7 @@ read_run read =
       end = read.span.address + read.span.count;
     }
 
--- The ranges of a list of reads, in order.
+-- The register ranges that the reads of a list request, in the order of the list.
 abbrev pub read_runs : List PlannedRead → List Run
 read_runs reads = map read_run reads
 
@@ -32,8 +32,9 @@ pub record Planned : Type 0 where
 abbrev pub BeginsInside : Run → ℕ → Type 0
 BeginsInside item start = (item.first ≤ start) × (start < item.end)
 
--- The invariant of a plan: each point begins inside its item (a range that one read must contain),
--- each item fits in one read, and the reads follow the planning rule.
+-- The invariant of a plan. Each point begins inside its item (a range that one read must contain),
+-- and each item fits in one read. The reads follow the planning rule: each begins at the first
+-- uncovered register and covers as much as possible.
 pub record IsPlan (plan : Planned) : Type 0 where
   pub each : length plan.starts ≡ length plan.items
   pub begun : (k : ℕ) (d : Run) → k < length plan.items
@@ -48,7 +49,8 @@ abbrev pub StandsAt : Planned → (point read offset : ℕ) → Type 0
 StandsAt plan point read offset = (d : PlannedRead)
     → (slice_index_or plan.reads read d).span.address + offset ≡ slice_index plan.starts point
 
--- True if `place` is the index of the first of these reads that contains the register range `item`.
+-- True if `place` is the index of the first read in the list `reads` that contains the register
+-- range `item`.
 pub record IsFirstHolding (reads : List Run) (item : Run) (place : ℕ) : Type 0 where
   pub within : place < length reads
   pub holds : (d : Run) → Holds (slice_index_or reads place d) item

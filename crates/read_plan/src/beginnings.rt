@@ -21,7 +21,8 @@ fn lies_within_reach(begin: &Run, item: &Run) -> bool
 }
 
 // Returns whether a register range lies within 125 registers from the start of a range in `found`.
-// The ranges are in order, so that it is enough to compare the last range of `found`.
+// The ranges are in order of function, area number and first register, so that it is enough to
+// compare the last range of `found`. No read has registers of two areas.
 fn is_reached(found: &[Run], item: &Run) -> bool
     ensures reached { OnTrue result (Any (λ begin. LiesWithinReach begin item.now) found.now) }
     ensures beyond { OnFalse result ((d : Run) → 0 < length found.now
@@ -49,8 +50,8 @@ pub fn beginnings(alloc: Global, items: &[Run]) -> Result<Vec<Run>, AllocError>
     Ok(found)
 }
 
-/// Returns whether a range ends at or before a limit, ordered by function, then by area number,
-/// then by last register.
+/// Returns whether a register range ends at or before a limit. The order is by function, then by
+/// area number (no Modbus read has registers of two areas), then by last register.
 pub fn ends_by_limit(run: &Run, limit: &Run) -> bool
     ensures { result ≡ ends_by run.now limit.now }
 {
@@ -61,8 +62,9 @@ pub fn ends_by_limit(run: &Run, limit: &Run) -> bool
             && (run.area < limit.area || run.area == limit.area && run.end <= limit.end)
 }
 
-/// Returns the greatest end of the items (register ranges) that lie within 125 registers from the
-/// start of `begin`. The items must be in order of their ends.
+/// Returns the greatest end of those items (register ranges) of `begin`'s area that end within 125
+/// registers from the start of `begin`. The items must be in order of function, area number (no
+/// read has registers of two areas) and last register.
 pub fn end_within_reach(items: &[Run], begin: &Run) -> u32
     requires ordered { AllPairs (λ a b. ¬ EndsBefore b a) items.now }
     requires among { Contains items.now begin.now }

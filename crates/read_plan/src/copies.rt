@@ -1,4 +1,5 @@
-//! Copies points and point lists, for `Clone` of a planned list.
+//! Copies points and point lists, for `Clone` of a planned list (a point list with its Modbus
+//! reads).
 ghost use Rattle.std.specs.Prelude.{◌≡◌, IfOk};
 
 use point_list::{ListedPoint, PointList, PointName, PointScale};

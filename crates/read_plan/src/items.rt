@@ -25,7 +25,8 @@ fn run_of_point(point: &ListedPoint) -> Run
     }
 }
 
-// Returns the smallest range that contains two ranges of the same area.
+// Returns the smallest range that contains two ranges of the same area (function and area number;
+// no read has registers of two areas).
 fn join(a: Run, b: Run) -> Run
     ensures { result ≡ joined a b }
 {

@@ -1,4 +1,5 @@
 //! Sorts register ranges by function, area number and register, as plans of Modbus reads require.
+//! Points with different area numbers are never in one read.
 ghost use Rattle.std.specs.Prelude.{IfOk};
 ghost use Rattle.std.specs.List.{AllPairs};
 ghost use Rattle.std.specs.List.Sorted.{IsPermutation};
@@ -7,7 +8,8 @@ ghost use Rattle.read_plan.specs.Plans.{ComesBefore, EndsBefore};
 use crate::run::Run;
 use std::alloc::{AllocError, Global};
 
-/// Returns the register ranges in order of function, area number and first register.
+/// Returns the register ranges in order of function, area number and first register. Points with
+/// different area numbers are never in one Modbus read.
 pub fn by_first(alloc: Global, runs: &[Run]) -> Result<Vec<Run>, AllocError>
     ensures same { IfOk result (λ v. IsPermutation runs.now v.items) }
     ensures ordered { IfOk result (λ v. AllPairs (λ a b. ¬ ComesBefore b a) v.items) }
@@ -17,7 +19,8 @@ pub fn by_first(alloc: Global, runs: &[Run]) -> Result<Vec<Run>, AllocError>
     Ok(sorted)
 }
 
-/// Returns the register ranges in order of function, area number and last register.
+/// Returns the register ranges in order of function, area number (no read has registers of two
+/// areas) and last register.
 pub fn by_end(alloc: Global, runs: &[Run]) -> Result<Vec<Run>, AllocError>
     ensures same { IfOk result (λ v. IsPermutation runs.now v.items) }
     ensures ordered { IfOk result (λ v. AllPairs (λ a b. ¬ EndsBefore b a) v.items) }

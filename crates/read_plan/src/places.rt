@@ -9,7 +9,7 @@ use std::marker::Model;
 /// The location of a point in the reads of a plan.
 #[derive(Clone, Copy, PartialEq, Eq)]
 pub struct Place {
-    /// The index of the read in the plan, from 0.
+    /// The index, from 0, of the Modbus read in the plan that contains the point.
     pub read: usize,
     /// The number of the read's registers that precede the point's first register.
     pub offset: u16,
@@ -55,22 +55,23 @@ impl Plan {
         }
     }
 
-    /// Returns the reads of the plan, in order of function, area number and address.
+    /// Returns the reads of the plan, in order of function, area number (no read has registers of
+    /// two areas) and address.
     pub fn reads(&self) -> &[PlannedRead]
         ensures { result.now ≡ self.now.reads }
     {
         self.reads.as_slice()
     }
 
-    /// Returns the number of points in the plan.
+    /// Returns the number of points in the point list whose Modbus reads the plan has.
     pub fn point_count(&self) -> usize
         ensures { result ≡ length self.now.items }
     {
         self.items.len()
     }
 
-    /// Returns the location of the point at this index of the list, from 0: the first read that
-    /// contains the point and its scale point, and the point's offset in that read.
+    /// Returns the location of the point at this index of the point list, from 0: the first read
+    /// that contains the point and its scale point, and the point's offset in that read.
     pub fn place(&self, point: usize) -> Place
         requires { point < length self.now.items }
         ensures first { (d : Run) → IsFirstHolding (read_runs self.now.reads)

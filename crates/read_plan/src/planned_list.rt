@@ -28,7 +28,8 @@ impl Model for PlannedList {
 impl PlannedList {
     ghost use Rattle.read_plan.specs.PlannedLists.{IsPlanned};
 
-    /// Creates a planned list from a point list. The only error is out of memory.
+    /// Creates a planned list (a point list with the Modbus reads that cover its points) from a
+    /// point list. The only error is out of memory.
     pub fn new(alloc: Global, list: PointList) -> Result<PlannedList, AllocError>
         ensures points { IfOk result (λ planned. planned.points ≡ list) }
         ensures planned { IfOk result IsPlanned }
@@ -39,7 +40,7 @@ impl PlannedList {
         Ok(PlannedList { list, reads })
     }
 
-    /// Returns the points, in the order of the list.
+    /// Returns the points, in the order of the point list.
     pub fn points(&self) -> &[ListedPoint]
         ensures points { result.now ≡ self.now.points }
         ensures planned { IsPlanned self.now }
@@ -47,7 +48,8 @@ impl PlannedList {
         self.list.points()
     }
 
-    /// Returns the reads of the plan, in order of function, area number and address.
+    /// Returns the reads of the plan, in order of function, area number (no read has registers of
+    /// two areas) and address.
     pub fn reads(&self) -> &[PlannedRead]
         ensures reads { result.now ≡ self.now.reads }
         ensures planned { IsPlanned self.now }

@@ -7,7 +7,8 @@ use crate::run::Run;
 use mb_wire::{ADDRESSES, ReadSpan};
 use std::alloc::{AllocError, Global};
 
-/// One read of a plan: a range of registers of one area number.
+/// One read of a plan (the Modbus reads that cover a point list): a range of registers of one area
+/// number (no read has registers of two areas).
 #[derive(Clone, Copy, PartialEq, Eq)]
 pub struct PlannedRead {
     pub area: u8,

@@ -18,9 +18,10 @@ fn starts(alloc: Global, points: &[ListedPoint]) -> Result<Vec<u16>, AllocError>
 }
 
 /// Returns the plan of a point list with the fewest reads. An item is the smallest range of
-/// registers that contains a point and its scale point. In each area, a read begins at the first
-/// register of the first item that no earlier read contains. The read ends at the greatest last
-/// register of those items that lie within 125 registers from the read's beginning.
+/// registers that contains a point and its scale point. In each area (function and area number; no
+/// read has points of two areas), a read begins at the first register of the first item that no
+/// earlier read contains. The read ends at the greatest last register of those items that lie
+/// within 125 registers from the read's beginning.
 pub fn plan(alloc: Global, list: &PointList) -> Result<Plan, AllocError>
     ensures starts { IfOk result (λ plan. plan.starts ≡ map (λ point. point.address) list.now) }
     ensures items { IfOk result (λ plan. plan.items ≡ items_of list.now) }

@@ -12,7 +12,7 @@ use mb_wire::ADDRESSES;
 use std::alloc::{AllocError, Global};
 
 // Returns one read for each item (register range) of `begins`, at which the read starts. `items`
-// must be in order of their ends.
+// must be in order of function, area number (no read has registers of two areas) and last register.
 fn reads_from(alloc: Global, items: &[Run], begins: &[Run]) -> Result<Vec<Run>, AllocError>
     requires ordered { AllPairs (λ a b. ¬ EndsBefore b a) items.now }
     requires among { All (Contains items.now) begins.now }
@@ -28,8 +28,9 @@ fn reads_from(alloc: Global, items: &[Run], begins: &[Run]) -> Result<Vec<Run>, 
     Ok(reads)
 }
 
-/// Returns the reads that follow the planning rule for the given items (ranges that one read must
-/// contain), each of 1 to 125 registers.
+/// Returns the reads, each of 1 to 125 registers, that the planning rule gives for the items
+/// (ranges that one read must contain). By the rule, each read begins at the first uncovered
+/// register and covers as much as possible.
 pub fn rule_reads(alloc: Global, items: &[Run]) -> Result<Vec<Run>, AllocError>
     requires readable { All IsReadable items.now }
     requires inside { All (λ item. item.first < ADDRESSES) items.now }

@@ -5,7 +5,8 @@ use mb_wire::ReadFunction;
 /// The maximum number of registers in one read.
 pub const READ_LIMIT: u32 = 125;
 
-/// A range of registers of one function and area number, from `first` to `end` exclusive.
+/// A range of registers of one function and area number (no read has registers of two areas), from
+/// `first` to `end` exclusive.
 #[derive(Clone, Copy)]
 pub struct Run {
     pub function: ReadFunction,

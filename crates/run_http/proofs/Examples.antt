@@ -29,7 +29,7 @@ least = record {
   ended = false;
 }
 
--- A closed meter with the longest name and the greatest numbers.
+-- An example of a meter: closed, with the longest possible name and the greatest possible numbers.
 abbrev greatest : Installation
 greatest = record {
   opening = record {
@@ -59,7 +59,8 @@ the_greatest : meters_text (greatest ∷ [])
 unfolding digits
 the_greatest = refl
 
--- Two meters give two lines in the given order, and a last line with the number of meters.
+-- Example: a response that lists two meters has their lines in the order of the meters, and a last
+-- line with the number of meters.
 both : meters_text (greatest ∷ least ∷ [])
     ≡ codes "Z-3456789_123456 18446744073709551614 18446744073709551615 4294967295 10 18446744073709551615 ended\na 0 0 0 -10 0 open\nend 2\n"
 unfolding digits
@@ -76,7 +77,7 @@ a_register = refl
 sixteen_bytes : IsRegisterTarget (codes "/registers/a234567890123456/meters") (asks (codes "a234567890123456"))
 sixteen_bytes = refl
 
--- A name of 17 bytes is invalid, and no accounting register has it.
+-- A name of 17 bytes is invalid, and no accounting register (a named energy counter) has it.
 seventeen_bytes : IsRegisterTarget (codes "/registers/a2345678901234567/meters") (Some (Meters None))
 seventeen_bytes = refl
 
@@ -108,8 +109,8 @@ past_the_last_moment = refl
 past_a_place : meter_target (codes "/meters/m1/entries/0/1") ≡ None
 past_a_place = refl
 
--- An empty last segment is a malformed number, so the request gets status 400. The empty segment
--- does not count as one segment too many.
+-- If the last segment of a target for a meter's entries is empty, it is a malformed sequence
+-- number, so the request gets status 400. The target does not count as one with too many segments.
 no_place : meter_target (codes "/meters/m1/entries/") ≡ Some (Own (Rejected BadRequest))
 no_place = refl
 
@@ -139,7 +140,8 @@ a_stopped_office_refuses : with_rows_reply meters_text (Err refusal.Stopped) []
 unfolding digits
 a_stopped_office_refuses = refl
 
--- Examples of responses with the headers for browsers.
+-- Examples of inserting headers after the status line of a response, and of which requests a link
+-- to the web page can make.
 
 after_the_first_line : with_headers (codes "A: b\r\n") (codes "HTTP/1.1 200 OK\r\nC: d\r\n\r\n\n") ≡ codes "HTTP/1.1 200 OK\r\nA: b\r\nC: d\r\n\r\n\n"
 after_the_first_line = refl

@@ -26,7 +26,7 @@ abbrev pub entries_before : (place : ℕ) → List EntryRow → List EntryRow
 entries_before place entries = filter (λ entry. nat_lt entry.place place) entries
 
 -- The sequence number that the meter's next entry will get. The opening entry, which installs the
--- meter, has number 1. `rows_of` lists the entries after the opening entry.
+-- meter, has number 1. The function `rows_of` lists the entries after the opening entry.
 abbrev pub next_place : List Fact → Opening → ℕ
 next_place facts opening = length (rows_of facts opening) + 2
 
@@ -41,15 +41,16 @@ stood_at facts opening place =
     let entries = entries_in (entries_before place (rows_of facts opening)) in
     (last_of (opened opening) entries).at
 
--- The time from which a meter's quarter hours can change, given its opening entry (the entry that
--- installs the meter). The time is 0 if there is no meter.
+-- The time from which a meter's quarter hours can change, if no entry before the sequence number
+-- `place` is voided (withdrawn). The argument is the meter's opening entry; the time is 0 if there
+-- is no meter.
 abbrev pub changes_of : List Fact → (place : ℕ) → Option Opening → ℕ
 changes_of facts place None = 0
 changes_of facts place (Some opening) = quarter_of (stood_at facts opening place)
 
 -- The time from which quarter hours of the meter can change, if no entry before the sequence number
 -- `place` is voided (cancelled). This time is the start of the quarter hour with the last valid
--- entry before `place`.
+-- (not voided) entry before `place`.
 abbrev pub changes_from : List Fact → (meter : List ℕ) → (place : ℕ) → ℕ
 changes_from facts meter place = changes_of facts place (opening_of facts meter)
 
@@ -75,9 +76,9 @@ pub record StaysBefore (further facts : List Fact) (meter : List ℕ) (opening :
       ≡ rows_before from (rows_of_meter facts meter)
       ++ rows_within (Between from till) (rows_of_meter (further ++ facts) meter)
 
--- Suppose that later records void (withdraw) no entry of the meter with a sequence number below
--- `place`. Then all quarter hours before that of the last valid entry below `place` stay unchanged
--- (`StaysBefore`).
+-- Suppose that the records `further`, added after the records `facts`, void (withdraw) no entry of
+-- the meter with a sequence number below `place`. Then all quarter hours before that of the last
+-- valid (not voided) entry below `place` stay unchanged (`StaysBefore`).
 abbrev pub RowsBeforeStay : Type 0
 RowsBeforeStay = (further facts : List Fact) (meter : List ℕ) (opening : Opening) (place : ℕ)
     → AreLawful (further ++ facts) → opening_of facts meter ≡ Some opening

@@ -1,5 +1,5 @@
 -- The responses to queries for quarter hours or entries of a meter, or for the past and present
--- meters of an accounting register.
+-- meters of an accounting register (a named energy counter).
 use Rattle.std.specs.Prelude.{◌≡◌, ℕ, true, List, [], ◌∷◌, ◌++◌, Option, Result, Ok, Err, IfOk, OnOk, codes}
 use Rattle.std.specs.declared.alloc.Global.{Global}
 use Rattle.std.specs.declared.vec.Vec.{Vec}
@@ -16,7 +16,7 @@ use Rattle.run_http.specs.StatusRoute.{with_reply}
 use Rattle.run_http.specs.declared.kept_rows.KeptRows.{KeptRows}
 
 -- States that the row of a quarter hour's energy is appended to the collected rows. If memory ran
--- out for this row or an earlier row, then `is_whole` is false.
+-- out for this row or an earlier row, then the collection's flag `is_whole` is false.
 abbrev pub KeepsRow : KeptRows → Share → KeptRows → Type 0
 KeepsRow old row new = new.is_whole ≡ true
     → (old.is_whole ≡ true) × (new.rows.items ≡ old.rows.items ++ row ∷ [])
@@ -32,8 +32,8 @@ pub record AsksRows {B T : Type 0} (ledger : B → Ledger) (old new : Office B)
   pub gives : IfOk result (λ reported. reported ≡ answer)
   pub lists : OnOk result (ListsAccepted ledger old new answer says)
 
--- The response to a query for rows: the text of the rows, or an error response if the program
--- refused the query.
+-- The HTTP response to a query for rows of a meter, such as its entries: the text of the rows, or
+-- an error response if the program refused the query.
 abbrev pub with_rows_reply : {T : Type 0} → (text : List T → List ℕ)
     → Result (Vec T Global) Refusal → List ℕ → List ℕ
 with_rows_reply text (Ok rows) before =

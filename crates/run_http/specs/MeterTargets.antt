@@ -12,12 +12,12 @@ use Rattle.run_http.specs.declared.route.RunRoute.{RunRoute}
 use Rattle.run_http.specs.declared.route.RunRoute.TheVariants.{Own, Intervals, Entries, Voids}
 use Rattle.run_http.specs.declared.route.StatusRoute.TheVariants.{Rejected}
 
--- The rest of the text after the prefix `word`, or None if the text does not begin with `word`.
+-- The part of a text after the prefix `word`, or None if the text does not begin with `word`.
 abbrev pub after : (word text : List ℕ) → Option (List ℕ)
 after word text =
     if bytes_eq (take (length word) text) word then Some (drop (length word) text) else None
 
--- The index of the first slash (47) in the text.
+-- The index of the first slash (47) in a text.
 abbrev pub slash_in : List ℕ → Option ℕ
 slash_in text = position (λ byte. byte == 47) text
 
@@ -60,7 +60,8 @@ abbrev pub entries_asked : (name : List ℕ) → (place : Option ℕ) → RunRou
 entries_asked name None = Own (Rejected BadRequest)
 entries_asked name (Some place) = Entries (named name) place
 
--- The route to entries for the text after `entries/`. A text with a slash has no route.
+-- The route to entries of a meter, given the target's text after `entries/`. A text with a slash
+-- has no route.
 abbrev pub entries_at : (name place : List ℕ) → Option RunRoute
 entries_at name place =
     if is_some (slash_in place) then None else Some (entries_asked name (digits_in place))
@@ -79,8 +80,8 @@ rows_in name text =
     if bytes_eq text (codes "voids") then Some (Voids (named name))
     else rows_asked name (after (codes "intervals/") text) (after (codes "entries/") text)
 
--- The route for the text after `/meters/`, split at its first slash. A text without a slash has no
--- route.
+-- The route of a request target, given its text after `/meters/`, which is split at its first
+-- slash. A text without a slash has no route.
 abbrev pub meter_cut : (text : List ℕ) → Option ℕ → Option RunRoute
 meter_cut text None = None
 meter_cut text (Some at) = rows_in (take at text) (drop (at + 1) text)

@@ -1,5 +1,5 @@
 -- The response to a query for `/metrics`: the program's counts of polls and readings, and the
--- accounting registers and meters in the store.
+-- accounting registers (named energy counters) and meters in the store.
 use Rattle.std.specs.Prelude.{List, [], ℕ, Result, Ok, Err, codes}
 use Rattle.std.specs.declared.alloc.Global.{Global}
 use Rattle.std.specs.declared.vec.Vec.{Vec}

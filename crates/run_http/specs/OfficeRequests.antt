@@ -26,7 +26,8 @@ abbrev pub may_void_by : (method target : List ℕ) → Bool
 may_void_by method target =
     bytes_eq method (codes "POST") && is_some (after (codes "/meters/") target)
 
--- True if the bytes hold a complete head of a request that could void (withdraw) an entry.
+-- True if the bytes hold a complete head of a POST request with a target that begins with
+-- `/meters/`. Only such a request can void (withdraw) an entry.
 abbrev pub may_void_in : (bytes : List ℕ) → HeadState → Bool
 may_void_in bytes Open = false
 may_void_in bytes TooLarge = false
@@ -35,7 +36,7 @@ may_void_in bytes (Whole at) =
     may_void_by (span_bytes bytes at.method) (span_bytes bytes at.target)
 
 -- States that `result` is true exactly if the bytes hold the head of a request that could void
--- (withdraw) an entry.
+-- (withdraw) an entry: a POST to a target that begins with `/meters/`.
 pub record MayVoid (bytes : List ℕ) (result : Bool) : Type 0 where
   pub head_state : HeadState
   pub looks : Looks bytes head_state

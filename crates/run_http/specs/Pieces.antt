@@ -47,7 +47,7 @@ text_left facts left =
     flat_map share_line (rows_left facts left)
     ++ end_line (left.reported + length (rows_left facts left))
 
--- True if some rows of the response are still to be queried.
+-- True if some rows of a streamed response are still to be queried.
 abbrev pub has_more : RemainingRows → Bool
 has_more left = nat_lt left.from left.till
 
@@ -56,8 +56,9 @@ abbrev pub last_quarter : Option Installation → ℕ
 last_quarter None = 0
 last_quarter (Some it) = quarter_of it.last.at
 
--- States that the rows still to be queried start before the quarter hour of the meter's last entry.
--- No new entry changes these rows while the response is sent.
+-- States that the interval rows that a streamed response still has to query start before the
+-- quarter hour of the meter's last entry. No new entry changes these rows while the response is
+-- sent.
 abbrev pub IsSettled : List Fact → RemainingRows → Type 0
 IsSettled facts left =
     left.from < left.till
@@ -73,20 +74,22 @@ TextStays = (further facts : List Fact) (meter : List ℕ) (opening : Opening) (
     → All (VoidsFrom meter (next_place facts opening)) further
     → text_left (further ++ facts) left ≡ text_left facts left
 
--- Definitions on the start of a streamed response.
+-- Definitions of the time span that a streamed response queries. Also defines when a response has
+-- started correctly: the written bytes and the text still to be sent form the complete response.
 
--- The start of the rows to query: `from`, or the quarter hour of the meter's opening (the first
--- entry) if that is later.
+-- The beginning of the time span whose interval rows are queried: `from`, or the quarter hour of
+-- the meter's opening (the first entry) if that is later.
 abbrev pub first_asked : Installation → (from : ℕ) → ℕ
 first_asked it from = max from (quarter_of it.opening.at)
 
--- The end of the rows that are queried chunk by chunk: `till`, or the quarter hour of the meter's
--- last entry if that is earlier, but not before their start. New entries change no row before that
--- quarter hour.
+-- The end of the time span whose interval rows are queried chunk by chunk: `till`, or the quarter
+-- hour of the meter's last entry if that is earlier. The end is never before the span's beginning.
+-- New entries change no row before that quarter hour.
 abbrev pub end_of_streamed : Installation → (from till : ℕ) → ℕ
 end_of_streamed it from till = max (first_asked it from) (min till (quarter_of it.last.at))
 
--- True if the rows that are queried chunk by chunk span more than `seconds` seconds.
+-- True if the rows that a streamed response queries chunk by chunk span more than `seconds`
+-- seconds.
 abbrev pub is_long_response : Installation → (from till seconds : ℕ) → Bool
 is_long_response it from till seconds = nat_lt seconds (end_of_streamed it from till - first_asked it from)
 
@@ -98,7 +101,8 @@ pub record IsBegun (facts : List Fact) (meter : List ℕ) (from till : ℕ)
   pub settled : IsSettled facts left
 
 -- The result of starting a streamed response, if `it` is the meter's present state in the store.
--- The response has started as `IsBegun` says, or the store failed, or memory ran out.
+-- Either the response has started with all requested rows (`IsBegun`), or the store failed, or
+-- memory ran out.
 abbrev pub AreBegun : {B E : Type 0} → (B → Ledger) → (old new : Office B) → Installation
     → (from till : ℕ) → (reply : List Share → List ℕ) → (put : List ℕ)
     → (answer : Result (Unit {0}) Refusal) → Result (Result RemainingRows Refusal) E → Type 0
@@ -112,8 +116,9 @@ AreBegun ledger old new it from till reply put answer (Ok (Err why)) =
     → IsOutside ⊥ (failures_of ledger old) (failures_of ledger new) why)
 AreBegun ledger old new it from till reply put answer (Err fault) = Unit {0}
 
--- The contract of a function that starts to stream a response that contains the quarter hours of a
--- meter, as `AreBegun` says. The function only queries the store, and changes no record.
+-- The contract of a function that starts a streamed response with the quarter hours of a meter. The
+-- response starts unless the store or memory fails (`AreBegun`). The function only queries the
+-- store, and changes no record.
 pub record BeginsReply {B : Type 0} (ledger : B → Ledger) (old new : Office B) (it : Installation)
     (from till : ℕ) (reply : List Share → List ℕ) (put : List ℕ) {E : Type 0}
     (result : Result (Result RemainingRows Refusal) E) : Type 0 where
@@ -131,9 +136,10 @@ with_rows text rows = with_reply Fine (codes "text/plain") (intervals_text rows)
 abbrev pub with_all_rows : List ℕ → List Share → List ℕ
 with_all_rows text rows = text ++ reply_bytes (lines_reply intervals_text (Ok rows))
 
--- Definitions on the size of a streamed response.
+-- Definitions of the size in bytes of a streamed response, which the head of the response contains.
 
--- States that `sizes` has the number of bytes in the rows' lines, and the number of rows.
+-- States that `sizes` has the number of interval rows (energies of quarter hours) in a list, and
+-- the number of bytes in the text lines of these rows.
 abbrev pub AreSizes : Sizes → List Share → Type 0
 AreSizes sizes rows =
     (sizes.bytes ≡ length (flat_map share_line rows)) × (sizes.count ≡ length rows)
@@ -145,8 +151,9 @@ SizesRow old row new = new.is_whole ≡ true
     → (old.is_whole ≡ true) × (new.sizes.bytes ≡ old.sizes.bytes + length (share_line row))
     × (new.sizes.count ≡ old.sizes.count + 1)
 
--- States that, unless the store failed or memory ran out, the result has the sizes of the rows that
--- are still to be queried.
+-- States that a call returned the number and the size of the rows that a streamed response must
+-- still query, or refused the query. Says nothing about a result `Err`, for example if memory ran
+-- out.
 abbrev pub AreSized : {B E : Type 0} → (B → Ledger) → (old new : Office B) → RemainingRows
     → (answer : Result (Unit {0}) Refusal) → Result (Result Sizes Refusal) E → Type 0
 AreSized ledger old new left answer (Ok (Ok sizes)) =
@@ -179,13 +186,13 @@ pub record SizesRows {B : Type 0} (ledger : B → Ledger) (old new : Office B) (
   pub asks : OnlyAsks ledger old new answer
   pub sizes : AreSized ledger old new left answer result
 
--- Definitions on the chunks of a streamed response.
+-- Definitions of how each chunk continues a streamed response.
 
--- States how one chunk advances a streamed response. The rows of the chunk start within the next
--- `seconds` seconds.
+-- States how one chunk advances a streamed response. The rows of the chunk start in the next
+-- `seconds` seconds of the time span that is still to be queried.
 --
--- If a time span was still to be queried and `seconds` is not 0, then a shorter span is left. The
--- response's meter and the end of its time span stay the same.
+-- If a time span was still to be queried and `seconds` (the length of a chunk) is not 0, then a
+-- shorter span is left. The response's meter and the end of its time span stay the same.
 pub record MovesOn (left later : RemainingRows) (seconds : ℕ) : Type 0 where
   pub meter : later.meter ≡ left.meter
   pub till : later.till ≡ left.till
@@ -193,8 +200,9 @@ pub record MovesOn (left later : RemainingRows) (seconds : ℕ) : Type 0 where
   pub none : left.till ≤ left.from → later.till ≤ later.from
   pub few : later.from ≤ left.from + seconds
 
--- States that the written bytes and the remaining text together are the same before and after the
--- chunk. The exceptions are a failed store and lack of memory.
+-- States that sending one chunk of a streamed response loses and repeats nothing: the written
+-- bytes, followed by the text still to be sent, are unchanged. The exceptions are a failed store
+-- and lack of memory.
 abbrev pub HasReported : {B E : Type 0} → (B → Ledger) → (old new : Office B)
     → (answer : Result (Vec Share Global) Refusal) → (left later : RemainingRows) → (seconds : ℕ)
     → (from to : List ℕ) → Result (Result (Unit {0}) Refusal) E → Type 0
@@ -221,7 +229,7 @@ abbrev pub ReportsRest : RemainingRows → (from to : List ℕ) → Type 0
 ReportsRest left from to =
     (facts : List Fact) → left.till ≤ left.from → to ≡ from ++ text_left facts left
 
--- Definitions on the complete streamed response.
+-- Definitions of the complete streamed response, which consists of chunks sent one after another.
 
 -- A chunk of a streamed response: all records added since the response began, what the response
 -- still has to send after the chunk, and the text written so far.

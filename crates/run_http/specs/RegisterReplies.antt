@@ -23,15 +23,16 @@ use Rattle.office_core.specs.declared.office.Office.{Office}
 use Rattle.run_http.specs.SiteReply.{with_refusal}
 use Rattle.run_http.specs.StatusRoute.{with_reply}
 
--- States that a function writes the remaining text of an energy report, unless memory runs out.
+-- States that a function writes the last row and the end of an energy report, unless memory runs
+-- out.
 pub record PutsLast {W E : Type 0} (contents : W → Option (List ℕ))
     (result : Result (Result (Unit {0}) Refusal) E) (old new : ReportRows W) : Type 0 where
   pub finishes : Finishes contents old new
   pub whole : OnOk result (new.failed ≡ false)
 
 -- States that the condition `Is` holds for the text of a report on the daily energy of an
--- accounting register. The report covers the range of days that the query names, in the site's time
--- zone.
+-- accounting register (a named energy counter). The report covers the range of days that the query
+-- names, in the site's time zone.
 abbrev pub IsReport : Zone → History → (register : Option (List ℕ)) → ReportForm
     → (Is : List ℕ → Type 0) → Type 0
 IsReport zone past register form Is =
@@ -40,9 +41,9 @@ IsReport zone past register form Is =
     × Is (report_text form days)
 
 -- States that a function writes the energy report, or the program refuses the query. Causes of a
--- refusal: no accounting register has the name, the store or memory failed, or an earlier failure
--- makes the program refuse all events. The program allocates memory only for the days of a register
--- that exists.
+-- refusal: no accounting register (a named energy counter) has the name, the store or memory
+-- failed, or an earlier failure makes the program refuse all events. The program allocates memory
+-- only for the days of a register that exists.
 pub record ReportsDays (zone : Zone) (past : History) (register : Option (List ℕ))
     (form : ReportForm) (before after : Failures) (answer : Result (Unit {0}) Refusal)
     (Is : List ℕ → Type 0) : Type 0 where
@@ -50,7 +51,8 @@ pub record ReportsDays (zone : Zone) (past : History) (register : Option (List �
       IsFound (there ≡ Some tt) there before after answer
   pub report : OnOk answer (IsReport zone past register form Is)
 
--- States that the report follows from the events that the program accepted earlier (`ReportsDays`).
+-- States that the energy report is the one that the events accepted before the query determine
+-- (`ReportsDays`).
 abbrev pub ReportsDaysReport : {B : Type 0} → (B → Ledger) → (old new : Office B)
     → (register : Option (List ℕ)) → ReportForm → Result (Unit {0}) Refusal → (Is : List ℕ → Type 0)
     → Type 0
@@ -58,8 +60,8 @@ ReportsDaysReport ledger old new register form answer Is = After ledger old new
     (λ past. ReportsDays (ledger (books_in old)).zone past register form
     (failures_of ledger old) (failures_of ledger new) answer Is)
 
--- The contract of a function that queries the store once and writes the energy report, unless
--- memory for the report runs out.
+-- The contract of a function that queries the store once for the energy report and writes the
+-- report. If memory for the report runs out, the text that was written is not specified.
 pub record AsksEnergy {B : Type 0} (ledger : B → Ledger) (old new : Office B)
     (register : Option (List ℕ)) (form : ReportForm) (had holds : Option (List ℕ)) {E : Type 0}
     (result : Result (Result (Unit {0}) Refusal) E) : Type 0 where

@@ -1,6 +1,7 @@
--- The request targets for an accounting register. `/registers/NAME/days/FROM/TILL` returns the
--- register's energy on the days from FROM on and before TILL. `/registers/NAME/months` returns the
--- energy of all days by month. `/registers/NAME/meters` returns the present and earlier meters.
+-- The request targets for an accounting register (a named energy counter).
+-- `/registers/NAME/days/FROM/TILL` returns the register's energy on the days from FROM on and
+-- before TILL. `/registers/NAME/months` returns the energy of all days by month.
+-- `/registers/NAME/meters` returns the present and earlier meters.
 use Rattle.std.specs.Prelude.{◌≡◌, ◌⊎◌, ℕ, ◌+◌, Bool, true, false, List, take, drop, bytes_eq, is_some, Option, Some, None, codes}
 use Rattle.jiff_core.specs.declared.civil.date.Date.{Date}
 use Rattle.energy_report.specs.Days.{IsReadAs, Spells}
@@ -18,7 +19,7 @@ use Rattle.run_http.specs.declared.route.RunRoute.{RunRoute}
 use Rattle.run_http.specs.declared.route.RunRoute.TheVariants.{Own, Energy, Meters}
 use Rattle.run_http.specs.declared.route.StatusRoute.TheVariants.{Rejected}
 
--- Definitions on ranges of days in request targets.
+-- Definitions of the ranges of days that request targets spell.
 
 -- The range of days that begins with `first` and ends before `last`.
 abbrev pub from_till : (first last : Date) → DayRange
@@ -39,20 +40,22 @@ IsRangeOf from till None =
     IsReadAs from None ⊎ IsReadAs till None
     ⊎ ((range : DayRange) × SpellRange from till range true)
 
--- Definitions on request targets for an accounting register (a named energy counter).
+-- Definitions of the routes of request targets for an accounting register (a named energy counter).
 
--- The form of a report with one plain-text line for each period, in mWh.
+-- The format of an energy report with one plain-text line for each period (such as a day), in mWh.
 abbrev pub lines_of : DayRange → Period → ReportForm
 lines_of range period =
     record { range = range; period = period; unit = MilliwattHours; format = Text }
 
 -- The route to the daily energy in a range of days, or status 400 if the target has no valid range.
--- No accounting register has an invalid name.
+-- An invalid name in the target counts as the name of no accounting register (a named energy
+-- counter).
 abbrev pub days_asked : (name : List ℕ) → Option DayRange → RunRoute
 days_asked name None = Own (Rejected BadRequest)
 days_asked name (Some range) = Energy (named name) (lines_of range period.Day)
 
--- The route to the energy of an accounting register by month, over all its days.
+-- The route to the energy of an accounting register (a named energy counter) by month, over all its
+-- days.
 abbrev pub months_asked : (name : List ℕ) → RunRoute
 months_asked name = Energy (named name) (lines_of all_days period.Month)
 
@@ -63,11 +66,13 @@ IsDaysUnless true name from till route = route ≡ None
 IsDaysUnless false name from till route =
     (range : Option DayRange) × IsRangeOf from till range × (route ≡ Some (days_asked name range))
 
--- The route to daily energy between two days. If the second text has a slash, there is no route.
+-- The route to daily energy between the days in two texts. If the second text has a slash, there is
+-- no route.
 abbrev pub IsDaysTill : (name from till : List ℕ) → Option RunRoute → Type 0
 IsDaysTill name from till route = IsDaysUnless (is_some (slash_in till)) name from till route
 
--- The route for the text after `days/`, split at its first slash into two days.
+-- The route of a request target to daily energy, given its text after `days/`, which is split at
+-- its first slash into two days.
 abbrev pub IsDaysCut : (name text : List ℕ) → (at : Option ℕ) → Option RunRoute → Type 0
 IsDaysCut name text None route = route ≡ None
 IsDaysCut name text (Some at) route = IsDaysTill name (take at text) (drop (at + 1) text) route
@@ -76,22 +81,25 @@ IsDaysCut name text (Some at) route = IsDaysTill name (take at text) (drop (at +
 abbrev pub IsDaysIn : (name text : List ℕ) → Option RunRoute → Type 0
 IsDaysIn name text route = IsDaysCut name text (slash_in text) route
 
--- The route for the text after `days/`, or none if the target has no such segment.
+-- The route of a request target to daily energy, given its text after `days/`, or none if the
+-- target has no segment `days`.
 abbrev pub IsDaysAsked : (name : List ℕ) → (days : Option (List ℕ)) → Option RunRoute → Type 0
 IsDaysAsked name None route = route ≡ None
 IsDaysAsked name (Some text) route = IsDaysIn name text route
 
--- The route to the energy by month if `is_months` is true, otherwise to the energy by day.
+-- The route to the energy of an accounting register (a named energy counter): by month if
+-- `is_months` is true, otherwise by day.
 abbrev pub IsEnergyAsked : (is_months : Bool) → (name text : List ℕ) → Option RunRoute → Type 0
 IsEnergyAsked true name text route = route ≡ Some (months_asked name)
 IsEnergyAsked false name text route = IsDaysAsked name (after (codes "days/") text) route
 
--- The route to the energy of an accounting register, for the text after `/registers/NAME/`.
+-- The route to the energy of an accounting register (a named energy counter), for the text after
+-- `/registers/NAME/`.
 abbrev pub IsEnergyIn : (name text : List ℕ) → Option RunRoute → Type 0
 IsEnergyIn name text route = IsEnergyAsked (bytes_eq text (codes "months")) name text route
 
--- The route to the meters of an accounting register if `is_meters` is true, otherwise to its
--- energy.
+-- The route to the meters of an accounting register (a named energy counter) if `is_meters` is
+-- true, otherwise to its energy.
 abbrev pub IsRowsAsked : (is_meters : Bool) → (name text : List ℕ) → Option RunRoute → Type 0
 IsRowsAsked true name text route = route ≡ Some (Meters (named name))
 IsRowsAsked false name text route = IsEnergyIn name text route
@@ -100,8 +108,8 @@ IsRowsAsked false name text route = IsEnergyIn name text route
 abbrev pub IsRowsIn : (name text : List ℕ) → Option RunRoute → Type 0
 IsRowsIn name text route = IsRowsAsked (bytes_eq text (codes "meters")) name text route
 
--- The route for the text after `/registers/`, split at its first slash. A text without a slash has
--- no route.
+-- The route of a request target, given its text after `/registers/`, which is split at its first
+-- slash. A text without a slash has no route.
 abbrev pub IsRegisterCut : (text : List ℕ) → (at : Option ℕ) → Option RunRoute → Type 0
 IsRegisterCut text None route = route ≡ None
 IsRegisterCut text (Some at) route = IsRowsIn (take at text) (drop (at + 1) text) route
@@ -115,7 +123,7 @@ abbrev pub IsRegisterAsked : Option (List ℕ) → Option RunRoute → Type 0
 IsRegisterAsked None route = route ≡ None
 IsRegisterAsked (Some text) route = IsRegisterIn text route
 
--- The route of a request target for an accounting register. Other targets have no route of this
--- kind.
+-- The route of a request target for an accounting register (a named energy counter). Other targets
+-- have no route of this kind.
 abbrev pub IsRegisterTarget : (target : List ℕ) → Option RunRoute → Type 0
 IsRegisterTarget target route = IsRegisterAsked (after (codes "/registers/") target) route

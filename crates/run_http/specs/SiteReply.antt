@@ -1,4 +1,5 @@
--- The response to a query for `/site`: the accounting registers and their meters.
+-- The response to a query for `/site`: the accounting registers (named energy counters) and their
+-- meters.
 use Rattle.std.specs.Prelude.{◌≡◌, ℕ, List, [], Result, Ok, Err, OnOk, codes}
 use Rattle.std.specs.declared.alloc.Global.{Global}
 use Rattle.std.specs.declared.vec.Vec.{Vec}
@@ -22,16 +23,16 @@ abbrev pub with_refusal : Refusal → List ℕ → List ℕ
 with_refusal why text =
     with_reply (status_of why) (codes "application/json") (refused_text (refusal_number why)) text
 
--- The response with the accounting registers and their meters as JSON, or an error response if the
--- program refused the query.
+-- The response with the accounting registers (named energy counters) and their meters as JSON, or
+-- an error response if the program refused the query.
 abbrev pub with_site_reply : (at : ℕ) → Result (Vec SiteLine Global) Refusal → List ℕ → List ℕ
 with_site_reply at (Ok lines) text =
     with_reply Fine (codes "application/json") (with_site [] at lines.items) text
 with_site_reply at (Err why) text = with_refusal why text
 
--- The contract of a function that queries the store once for its accounting registers and meters.
--- Unless memory runs out, the function then appends the response with them, or an error response if
--- the program refused the query.
+-- The contract of a function that queries the store once for its accounting registers (named energy
+-- counters) and meters. Unless memory runs out, the function then appends the response with them,
+-- or an error response if the program refused the query.
 pub record RepliesSite {B : Type 0} (ledger : B → Ledger) (old new : Office B)
     (reply : Result (Vec SiteRow Global) Refusal → List ℕ → List ℕ) (from to : List ℕ)
     {E : Type 0} (result : Result (Unit {0}) E) : Type 0 where

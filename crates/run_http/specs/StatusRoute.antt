@@ -36,7 +36,7 @@ path_named target =
     else if bytes_eq target (codes "/site") then Some Site
     else option_map (λ part. Own (Page part)) (part_of target)
 
--- The route of a request target. A target that is no fixed path (such as `/status`) can still
+-- The route of a request target. A target other than a fixed path such as `/status` can still
 -- request quarter hours or entries of a meter.
 abbrev pub or_meter : (target : List ℕ) → Option RunRoute → Option RunRoute
 or_meter target None = meter_target target
@@ -47,8 +47,8 @@ or_meter target (Some route) = Some route
 abbrev pub plain_target : (target : List ℕ) → Option RunRoute
 plain_target target = or_meter target (path_named target)
 
--- The route of a request target. A target that requests no fixed path and no rows of a meter can
--- still request the energy or the meters of an accounting register.
+-- The route of a request target. A target that is no fixed path and requests no rows of a meter can
+-- still request the energy or the meters of an accounting register (a named energy counter).
 abbrev pub IsElse : (target : List ℕ) → Option RunRoute → Option RunRoute → Type 0
 IsElse target None route = IsRegisterTarget target route
 IsElse target (Some plain) route = route ≡ Some plain
@@ -127,7 +127,7 @@ pub record IsFor (names : List (List ℕ)) (bytes : List ℕ) (route : Option Ru
   pub looks : Looks bytes head_state
   pub asks : IsRunRoute (may_ask_in names bytes head_state) bytes head_state route
 
--- True if the route returns the energy of an accounting register.
+-- True if the route returns the energy of an accounting register (a named energy counter).
 abbrev pub is_energy : Option RunRoute → Bool
 is_energy None = false
 is_energy (Some (Own own)) = false
@@ -139,7 +139,8 @@ is_energy (Some (Voids meter)) = false
 is_energy (Some (Energy register form)) = true
 is_energy (Some (Meters register)) = false
 
--- States that `result` is true exactly if the bytes request the energy of an accounting register.
+-- States that `result` is true exactly if the bytes request the energy of an accounting register (a
+-- named energy counter).
 pub record AsksEnergy (names : List (List ℕ)) (bytes : List ℕ) (result : Bool) : Type 0 where
   pub route : Option RunRoute
   pub for : IsFor names bytes route
@@ -169,7 +170,7 @@ with_page_headers text =
     text ++ codes "\r\nContent-Security-Policy: default-src 'self'; frame-ancestors 'none'"
     ++ codes "\r\nCache-Control: no-cache"
 
--- The response with a part of the web page.
+-- The HTTP response that delivers one part of the web page (`PagePart`), appended to `text`.
 abbrev pub with_page_reply : PagePart → List ℕ → List ℕ
 with_page_reply part text =
     with_page_headers (with_start Fine (content_type_of part) (body_of part) text)

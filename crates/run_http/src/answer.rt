@@ -23,7 +23,8 @@ pub enum ClientResponse {
 /// Executes the request in the bytes of a client, and returns the response. `moment` is in seconds
 /// since 1970-01-01 UTC.
 ///
-/// If the result is `Open`, the caller should try again with more bytes of the client.
+/// If the result is `Open`, the request is still incomplete. The caller should call the function
+/// again with more bytes of the client.
 pub fn ask<B: Books>(
     alloc: Global,
     request: &[u8],

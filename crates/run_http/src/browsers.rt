@@ -52,8 +52,8 @@ fn with_headers(alloc: Global, more: &[u8], reply: &[u8]) -> Result<Vec<u8>, All
 /// Adds to a response the headers that protect users of browsers. With these headers, a browser
 /// does not guess the type of the body, and other sites cannot use the body.
 ///
-/// Only parts of the web page may be cached. `names` are the server's host names, by which the
-/// request's route is found. Fails if memory runs out.
+/// Only the response to a request for a part of the web page may be cached. `names` are the
+/// server's host names, by which the request's route is found. Fails if memory runs out.
 pub fn for_browsers(
     alloc: Global,
     names: &[&str],

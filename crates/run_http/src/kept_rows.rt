@@ -14,7 +14,7 @@ pub struct KeptRows {
 impl KeptRows {
     ghost use Rattle.std.specs.Prelude.{◌≡◌, [], true, IfOk};
 
-    /// Makes an empty collection of interval rows.
+    /// Makes an empty collection of interval rows (energies of quarter hours).
     pub fn new(alloc: Global) -> KeptRows
         ensures none { result.rows.items ≡ [] }
         ensures whole { result.is_whole ≡ true }
@@ -25,7 +25,8 @@ impl KeptRows {
         }
     }
 
-    /// Returns all collected interval rows. Fails if memory ran out for any of the rows.
+    /// Returns all collected interval rows (energies of quarter hours). Fails if memory ran out for
+    /// any of the rows.
     pub fn into_rows(self) -> Result<Vec<Share>, AllocError>
         ensures whole { IfOk result (λ rows. self.is_whole ≡ true) }
         ensures rows { IfOk result (λ rows. rows ≡ self.rows) }

@@ -16,7 +16,7 @@ use office_events::{Name, Refusal};
 use office_http::messages::Status;
 use std::alloc::{AllocError, Global};
 
-/// The most meter entries in one response.
+/// The maximum number of meter entries in one response.
 pub const MOST_ENTRIES: u32 = 4096;
 
 /// Queries the quarter hours of a meter from the store.

@@ -7,7 +7,7 @@ use office_books::Span;
 use office_events::Name;
 use office_http::messages::{Status, digits};
 
-/// Returns the rest of a text after the prefix `word`, or `None` if the text does not begin with
+/// Returns the part of a text after the prefix `word`, or `None` if the text does not begin with
 /// `word`.
 pub(crate) fn after<'t>(word: &[u8], text: &'t [u8]) -> Option<&'t [u8]>
     ensures { option_map (λ rest. rest.now) result ≡ targets.after word.now text.now }

@@ -34,8 +34,8 @@ fn append_answer(
     }
 }
 
-/// Queries the open meters, and appends the response with their energy and the counts. If memory
-/// runs out, only a part of the response was appended.
+/// Queries the open meters, and appends the response with their energy and the program's counts of
+/// polls and readings. If memory runs out, only a part of the response was appended.
 pub fn reply_metrics<B: Books>(
     alloc: Global,
     text: &mut Vec<u8>,

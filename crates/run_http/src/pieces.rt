@@ -24,11 +24,13 @@ use std::alloc::{AllocError, Global};
 #[derive(Drop)]
 pub struct RemainingRows {
     meter: Option<Name>,
-    /// The rows that are still to be queried start at `from` or later and before `till`.
+    /// The interval rows (energies of quarter hours) that the response must still query start at
+    /// `from` or later and before `till`.
     from: u64,
     till: u64,
-    /// The last rows of the response. They are copied when the response begins, because new entries
-    /// can change these rows in the store.
+    /// The interval rows at the end of the response, from the quarter hour of the meter's last
+    /// entry. They are copied when the response begins, because new entries can change these rows
+    /// in the store.
     last: Vec<Share>,
     /// The number of rows of the response that were already written.
     reported: usize,
@@ -48,8 +50,8 @@ fn first_asked(it: &Installation, from: u64) -> u64
     from.max(quarter_of(it.opening.at))
 }
 
-// Returns the end of the rows that are queried chunk by chunk: `till`, or the quarter hour of the
-// meter's last entry if that is earlier.
+// Returns the end of the time span whose rows are queried chunk by chunk: `till`, or the quarter
+// hour of the meter's last entry if that is earlier.
 fn end_of_streamed(it: &Installation, from: u64, till: u64) -> u64
     ensures { result ≡ pieces.end_of_streamed it.now from till }
 {
@@ -209,7 +211,8 @@ pub fn begin_all_intervals<B: Books>(
     }
 }
 
-// Returns the end of a chunk: `from` plus `seconds`, at most `till`.
+// Returns the end of the time span whose rows form the next chunk of a response: `from` plus
+// `seconds`, at most `till`.
 fn piece_end(from: u64, till: u64, seconds: u64) -> u64
     ensures low { from ≤ till → from ≤ result }
     ensures high { result ≤ till }
@@ -282,8 +285,9 @@ pub fn write_next_rows<B: Books>(
     }
 }
 
-// Returns the number of rows in the complete response. All rows except the copied last rows must
-// already be written. Returns `None` if the number overflows.
+// Returns the number of rows in a complete streamed response: the rows already written, and the
+// last rows, which were copied when the response began. All other rows must already be written.
+// Returns `None` if the number overflows.
 fn count_of(left: &RemainingRows) -> Option<usize>
     ensures { IfSome result (λ count. count ≡ left.now.reported + length left.now.last.items) }
 {

@@ -1,4 +1,5 @@
-//! The response to a query for all meters of an accounting register, present and earlier.
+//! The response to a query for all meters of an accounting register (a named energy counter),
+//! present and earlier.
 ghost use Rattle.std.specs.Prelude.{◌≡◌, OnOk};
 ghost use Rattle.office_core.specs.Parts.{meters_named};
 ghost use Rattle.run_http.specs.MeterReplies.{RepliesRows, with_rows_reply};
@@ -13,8 +14,8 @@ use office_events::{Installation, Name, Refusal};
 use office_http::messages::Status;
 use std::alloc::{AllocError, Global};
 
-// Appends the response with the past and present meters of an accounting register, or an error
-// response if the program refused the query.
+// Appends the response with the past and present meters of an accounting register (a named energy
+// counter), or an error response if the program refused the query.
 fn write_reported_meters(
     alloc: Global,
     text: &mut Vec<u8>,
@@ -33,9 +34,9 @@ fn write_reported_meters(
     }
 }
 
-/// Queries all meters of an accounting register, open and closed, in the order of their
-/// installation, and appends the response. If memory runs out, only a part of the response was
-/// appended.
+/// Queries all meters of an accounting register (a named energy counter), open and closed, in the
+/// order of their installation, and appends the response. If memory runs out, only a part of the
+/// response was appended.
 pub fn reply_meters<B: Books>(
     alloc: Global,
     text: &mut Vec<u8>,

@@ -1,4 +1,4 @@
-//! The response to a query for the energy of an accounting register.
+//! The response to a query for the energy of an accounting register (a named energy counter).
 ghost use Rattle.std.specs.Prelude.{◌≡◌, IfOk, OnOk};
 ghost use Rattle.run_http.specs.RegisterReplies.{AsksEnergy, PutsLast, RepliesEnergy};
 ghost use Rattle.run_http.specs.RegisterReplies.{with_energy_reply};
@@ -36,7 +36,8 @@ fn add_rest<W: Write>(
     }
 }
 
-// Queries the daily energy of an accounting register, and writes the report.
+// Queries the daily energy of an accounting register (a named energy counter), and writes the
+// energy report to `output`.
 fn write_energy<B: Books, W: Write>(
     office: &mut Office<B>,
     register: &Option<Name>,
@@ -51,9 +52,9 @@ fn write_energy<B: Books, W: Write>(
     add_rest(reported, &mut rows)
 }
 
-/// Appends the response to a query for the energy of an accounting register: the report, or an
-/// error response if the program refused the query. If memory runs out, only a part of the response
-/// was appended.
+/// Appends the response to a query for the energy of an accounting register (a named energy
+/// counter): the report, or an error response if the program refused the query. If memory runs out,
+/// only a part of the response was appended.
 pub fn write_energy_reply(
     text: &mut Vec<u8>,
     answer: &Result<(), Refusal>,
@@ -68,10 +69,12 @@ pub fn write_energy_reply(
     }
 }
 
-/// Queries the daily energy of an accounting register, and appends the response with the report.
+/// Queries the daily energy of an accounting register (a named energy counter), and appends the
+/// response with the report.
 ///
-/// If the range has a first and a last day, the store reads only quarter hours of the range and two
-/// days on each side. If memory runs out, only a part of the response was appended.
+/// If the requested range of days has a first and a last day, the store reads only quarter hours of
+/// the range and two days on each side. If memory runs out, only a part of the response was
+/// appended.
 pub fn reply_energy<B: Books>(
     alloc: Global,
     text: &mut Vec<u8>,

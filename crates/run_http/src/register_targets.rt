@@ -1,5 +1,5 @@
-//! Parses the request targets for an accounting register: its energy, or its present and earlier
-//! meters.
+//! Parses the request targets for an accounting register (a named energy counter): its energy, or
+//! its present and earlier meters.
 ghost use Rattle.std.specs.Prelude.{◌≡◌};
 ghost use Rattle.energy_report.specs.Days.{IsReadAs};
 ghost use Rattle.run_http.specs.RegisterTargets as targets;
@@ -42,7 +42,8 @@ fn range_of(from: &[u8], till: &[u8]) -> Option<DayRange>
     Some(range)
 }
 
-// Returns the format of an energy report with one plain-text line for each period, in mWh.
+// Returns the format of an energy report with one plain-text line for each period (such as a day),
+// in mWh.
 fn lines_of(range: DayRange, period: Period) -> ReportForm
     ensures { result ≡ targets.lines_of range period }
 {
@@ -68,7 +69,8 @@ fn days_asked(name: &[u8], range: Option<DayRange>) -> RunRoute
     }
 }
 
-// Returns the route to the energy of an accounting register by month, over all days.
+// Returns the route to the energy of an accounting register (a named energy counter) by month, over
+// all days.
 fn months_asked(name: &[u8]) -> RunRoute
     ensures { result ≡ targets.months_asked name.now }
 {
@@ -133,7 +135,8 @@ fn register_in(text: &[u8]) -> Option<RunRoute>
     }
 }
 
-/// Parses a request target for the energy or the meters of an accounting register.
+/// Parses a request target for the energy or the meters of an accounting register (a named energy
+/// counter).
 pub(crate) fn register_target(target: &[u8]) -> Option<RunRoute>
     ensures { targets.IsRegisterTarget target.now result }
 {

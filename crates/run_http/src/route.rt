@@ -1,5 +1,5 @@
-//! The routes of `sunreg run`: the status, metrics, the site, rows of a meter, the energy and
-//! meters of an accounting register, and the web page.
+//! The routes of `sunreg run`: `/status`, `/metrics`, `/site`, rows of a meter, the energy and
+//! meters of an accounting register (a named energy counter), and the web page.
 ghost use Rattle.std.specs.Prelude.{◌≡◌, IfOk, OnOk};
 ghost use Rattle.office_http.specs.Messages.Head.Heads.{Looks};
 ghost use Rattle.office_http.specs.Messages.Sending.Bodies.{fault_text};
@@ -21,8 +21,8 @@ use web_page::{PagePart, part_of};
 /// A route whose response needs no query of the store.
 #[derive(Clone, Copy)]
 pub enum StatusRoute {
-    /// The counts, the device states, and what is missing in the store for the devices, as JSON
-    /// (`/status`).
+    /// The counts of polls, readings and refusals, the device states, and what is missing in the
+    /// store for the devices, as JSON (`/status`).
     Status,
     /// A part of the web page, such as its script.
     Page(PagePart),
@@ -38,7 +38,7 @@ pub enum RunRoute {
     Own(StatusRoute),
     /// The counts and the energy of the open meters, in Prometheus's text format (`/metrics`).
     Metrics,
-    /// The accounting registers and their meters, as JSON (`/site`).
+    /// The accounting registers (named energy counters) and their meters, as JSON (`/site`).
     Site,
     /// The quarter hours of a meter, as plain text. `None` means an invalid meter name.
     Intervals {
@@ -55,13 +55,14 @@ pub enum RunRoute {
     Voids {
         meter: Option<Name>,
     },
-    /// The energy of an accounting register, as plain text in the requested format. `None` means an
-    /// invalid register name.
+    /// The energy of an accounting register (a named energy counter), as plain text in the
+    /// requested format. `None` means an invalid register name.
     Energy {
         register: Option<Name>,
         form: ReportForm,
     },
-    /// The present and earlier meters of an accounting register, as plain text.
+    /// The present and earlier meters of an accounting register (a named energy counter), as plain
+    /// text.
     Meters {
         register: Option<Name>,
     },
@@ -193,7 +194,8 @@ pub fn run_route(names: &[&str], request: &[u8]) -> Option<RunRoute>
     }
 }
 
-/// Returns whether [`run_route`] finds a route to the energy of an accounting register.
+/// Returns whether [`run_route`] finds a route to the energy of an accounting register (a named
+/// energy counter).
 pub fn asks_energy(names: &[&str], request: &[u8]) -> bool
     ensures { texts.AsksEnergy (hosts.texts names.now) request.now result }
 {
@@ -232,7 +234,7 @@ fn write_start(
     write_start_of(text, status, kind, body.len())
 }
 
-/// Appends a complete response with a body of this content type.
+/// Appends a complete HTTP response. `kind` is the content type of its body.
 pub(crate) fn append_reply(
     text: &mut Vec<u8>,
     status: Status,

@@ -4,15 +4,16 @@ use interval_core::Share;
 use office_books::RowSink;
 use std::alloc::{AllocError, Global};
 
-/// The number of some interval rows, and the size of their lines in bytes.
+/// The number of some interval rows (energies of quarter hours), and the size of their lines in
+/// bytes.
 #[derive(Clone, Copy)]
 pub struct Sizes {
     pub bytes: usize,
     pub count: usize,
 }
 
-/// The number of the interval rows received so far, and the size of their lines. `is_whole` is
-/// false if memory ran out for a row.
+/// The number of the interval rows (energies of quarter hours) received so far, and the size of
+/// their lines. `is_whole` is false if memory ran out for a row.
 #[derive(Drop)]
 pub struct RowSizes {
     line: Vec<u8>,
@@ -24,7 +25,7 @@ impl RowSizes {
     ghost use Rattle.std.specs.Prelude.{◌≡◌, ◌+◌, length, true, IfOk, IfSome, OnOk};
     ghost use Rattle.interval_core.specs.Lines.{share_line};
 
-    /// Makes the sizes of no interval rows: 0 bytes and 0 rows.
+    /// Makes the sizes of no interval rows (energies of quarter hours): 0 bytes and 0 rows.
     pub fn new(alloc: Global) -> RowSizes
         ensures sizes { result.sizes ≡ record { bytes = 0; count = 0 } }
         ensures whole { result.is_whole ≡ true }
@@ -36,8 +37,8 @@ impl RowSizes {
         }
     }
 
-    // Returns the number of rows and the size of their lines after another row, whose line has
-    // `bytes` bytes. Returns `None` if a size overflows.
+    // Returns the number of measured rows, and the total size of their lines in bytes, after one
+    // more row with a line of `bytes` bytes. Returns `None` if a sum overflows.
     fn with_line(&self, bytes: usize) -> Option<Sizes>
         ensures bytes { IfSome result (λ sizes. sizes.bytes ≡ self.now.sizes.bytes + bytes) }
         ensures count { IfSome result (λ sizes. sizes.count ≡ self.now.sizes.count + 1) }
@@ -47,7 +48,8 @@ impl RowSizes {
         Some(Sizes { bytes, count })
     }
 
-    // Measures one interval row and adds it to the sizes.
+    // Adds an interval row (energy of a quarter hour) to the sizes of the rows of a response: the
+    // length of the row's text line in bytes, and one row.
     fn count_in(&mut self, row: &Share) -> Result<(), AllocError>
         ensures bytes { OnOk result (self.new.sizes.bytes
             ≡ self.old.sizes.bytes + length (share_line row.now)) }
@@ -65,7 +67,8 @@ impl RowSizes {
         }
     }
 
-    /// Returns the sizes of all interval rows. Fails if memory ran out for any line.
+    /// Returns the sizes of all interval rows (energies of quarter hours). Fails if memory ran out
+    /// for any line.
     pub fn whole(&self) -> Result<Sizes, AllocError>
         ensures whole { IfOk result (λ sizes. self.now.is_whole ≡ true) }
         ensures sizes { IfOk result (λ sizes. sizes ≡ self.now.sizes) }

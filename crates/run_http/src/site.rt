@@ -1,4 +1,5 @@
-//! The response to a query for `/site`: the accounting registers and their meters.
+//! The response to a query for `/site`: the accounting registers (named energy counters) and their
+//! meters.
 ghost use Rattle.std.specs.Prelude.{◌≡◌, OnOk};
 ghost use Rattle.run_http.specs.SiteReply.{with_refusal, with_site_reply};
 
@@ -16,9 +17,9 @@ pub(crate) fn append_refusal(text: &mut Vec<u8>, why: Refusal) -> Result<(), All
     append_reply(text, status_of(why), b"application/json", body.bytes())
 }
 
-/// Appends the response to a query for `/site`: the accounting registers and meters, or an error
-/// response if the program refused the query. `moment` is in seconds since 1970-01-01 UTC. If
-/// memory runs out, only a part of the response was appended.
+/// Appends the response to a query for `/site`: the accounting registers (named energy counters)
+/// and meters, or an error response if the program refused the query. `moment` is in seconds since
+/// 1970-01-01 UTC. If memory runs out, only a part of the response was appended.
 pub fn write_site_reply(
     alloc: Global,
     text: &mut Vec<u8>,

@@ -1,5 +1,5 @@
 //! Formats the bodies of responses: `/site`, `/metrics`, rows of a meter, and the past and present
-//! meters of an accounting register.
+//! meters of an accounting register (a named energy counter).
 
 mod energy_lines;
 mod families;

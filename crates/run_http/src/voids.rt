@@ -39,7 +39,7 @@ fn keep_if_voided(kept: &mut Vec<MeterEntry>, entry: &MeterEntry) -> Result<(), 
     Ok(())
 }
 
-// Appends the voided (withdrawn) entries among the entries in `piece` to the list.
+// Appends the voided (withdrawn) entries among the entries in `piece` to the list `kept`.
 fn keep_voided(kept: &mut Vec<MeterEntry>, piece: &[MeterEntry]) -> Result<(), AllocError>
     ensures { OnOk result (kept.new.items ≡ kept.old.items ++ voids.voided_in piece.now) }
 {

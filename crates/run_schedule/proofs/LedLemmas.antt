@@ -1,4 +1,5 @@
--- Lemmas on the search for the store's current file among the file names, name by name.
+-- Lemmas: a search through the file names, one by one, finds the store's current file, in which the
+-- program records energy.
 use Rattle.std.proofs.Common.{◌≡◌, ◌⊎◌, inl, inr, ℕ, ◌+◌, ◌<◌, ◌≤◌, nat_lt, Bool, true, false, List, [], ◌∷◌, ◌++◌, Some, None, refl, sym, ap, ◌∙◌, subst, arith}
 use Rattle.std.specs.Prelude.{Option, codes, Contains, ◌||◌}
 use Rattle.std.specs.Borrow.{Bor}
@@ -22,8 +23,8 @@ or_left : (a b : Bool) → a ≡ true → (a || b) ≡ true
 or_left true b is = refl
 or_left false b is = absurd (cc)
 
--- Suppose that a file name contains no period (such as `2026-11`) of the configured length. Then a
--- search for a period of either length has the result of the search for the alternative length.
+-- Suppose that a file name contains no period of the configured length (such as a month). Then a
+-- search for both lengths has the result of the search for the alternative length (such as a year).
 pub reported_by_other : (file : List ℕ) (length : Period) (name : List ℕ) (r : Option (Bor (List ℕ))) → IsPeriodIn file length name None
     → IsPeriodIn file (other_length length) name r → IsReportedBy file length name r
 reported_by_other file length name (Some text) own is = record {

@@ -1,5 +1,5 @@
--- Lemmas on the part of a file name between its stem and its extension, such as `2026-11` in
--- `office-2026-11.db`.
+-- Lemmas on when a file name consists of a given stem, a hyphen, a text and a given extension, such
+-- as `office-2026-11.db`.
 use Rattle.std.proofs.Common.{◌≡◌, ◌≢◌, List, ℕ, ◌++◌, Some, None, sym, ◌∙◌, ap, append_assoc}
 use Rattle.std.specs.Prelude.{Option, codes, false, true}
 use Rattle.std.specs.Borrow.{Bor}
@@ -35,7 +35,7 @@ ends_so name stem suffix rest more None front hyphen none = λ text is. none tex
 ends_so name stem suffix rest more (Some text) front hyphen is =
     grouped stem text.now suffix ∙ sym (front ∙ ap (λ l. stem ++ l) (hyphen ∙ ap (λ l. codes "-" ++ l) is))
 
--- Lemmas on the periods in file names, such as `2026-11` in `office-2026-11.db`.
+-- Lemmas on when a file name contains no period, such as `2026-11` in `office-2026-11.db`.
 
 pub no_name : (file name : List ℕ) (period : Period) → ((text : List ℕ) → stem_of file ++ codes "-" ++ text ++ suffix_of file ≢ name)
     → IsPeriodIn file period name None

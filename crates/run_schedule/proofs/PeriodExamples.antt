@@ -41,7 +41,8 @@ last_day_of_a_month = refl
 day_32 : spells period.Day (codes "2026-12-32") ≡ false
 day_32 = refl
 
--- Examples of the current file among several file names.
+-- Examples of which of several file names belongs to the current file, in which the program records
+-- energy.
 
 a_later_month_is_led : nat_lt (rank period.Month (codes "2026-11")) (rank period.Month (codes "2026-12")) ≡ true
 a_later_month_is_led = refl

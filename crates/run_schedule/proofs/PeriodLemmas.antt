@@ -36,7 +36,7 @@ not_past zone last at early =
     let bound = offset_range zone at in
     omega (arith, signed_arith, bound.1, early)
 
--- Lemmas on the values of integers that were converted to 64-bit numbers.
+-- Lemmas: an integer that fits in 64 bits keeps its value when it is converted to a 64-bit number.
 
 natural : (z : ℤ) → FitsUnsignedBits 64 z → z ≡ pos (unsigned_abs z)
 natural (pos n) fits = refl
@@ -53,7 +53,7 @@ as_natural z n bound fits is =
     let here : FitsUnsignedBits 64 z = subst (FitsUnsignedBits 64) back fits in
     natural z here ∙ ap pos (sym (is ∙ ap unsigned_abs back))
 
--- Lemmas on the order of two integers, from the result of comparing them.
+-- Lemmas: the result of comparing two integers determines which of the two is less.
 
 pub earlier : (x y : ℤ) → is_lt (int_cmp x y) ≡ true → x <ℤ y
 earlier x y test =

@@ -9,7 +9,7 @@ ghost use Rattle.run_schedule.specs.FileMarks.{IsStill};
 pub struct FileMark {
     pub device: u64,
     pub inode: u64,
-    /// The size of the file in bytes.
+    /// The size, in bytes, of the file that the device number and the inode number identify.
     pub size: u64,
 }
 
@@ -20,7 +20,7 @@ pub enum FileLoss {
     Missing,
     /// The path leads to another file, by device or inode number.
     Replaced,
-    /// The path leads to the open file, which is shorter than before.
+    /// The path leads to the open file, which is shorter than its last known size.
     Shortened,
 }
 
@@ -33,8 +33,8 @@ fn is_same_file(known: FileMark, found: FileMark) -> bool
 /// Compares the file at a path with the open file. `known` is the last known mark (device, inode,
 /// size) of the open file, `found` the mark of the file at the path.
 ///
-/// A longer file is no loss, because the program only appends to its file. Marks do not show bytes
-/// that another program overwrote in place.
+/// A longer file is no loss, because the store's file only grows. The compared device, inode and
+/// size do not show bytes that another program overwrote in place.
 pub fn file_loss(known: FileMark, found: Option<FileMark>) -> Option<FileLoss>
     ensures loss { result ≡ marks.file_loss known found }
     ensures still { result ≡ None → IsStill known found }

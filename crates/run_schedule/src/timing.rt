@@ -1,5 +1,6 @@
-//! Decides when devices are due, how long operations may take, and which timestamp an event gets.
-//! Times are whole seconds since 1970-01-01 UTC, and durations are seconds.
+//! Decides when to connect to devices and poll them, how long operations may take, and which
+//! timestamp an event gets. Times are whole seconds since 1970-01-01 UTC, and durations are
+//! seconds.
 
 mod grid;
 mod limits;

@@ -122,7 +122,8 @@ fn play_text<B: Books, W: Write>(
     output: &mut W,
 ) -> Result<ExitStatus, io::Error> {
     let mut lines = InputLines::new(text);
-    // A script has fewer than 2^64 - 1 lines, so the loop always ends at the last line.
+    // A script (a text of commands, events and queries) has fewer than 2^64 - 1 lines, so the loop
+    // always ends at the last line.
     for _ in 0..u64::MAX {
         let Some(line) = lines.next_line() else {
             break;
@@ -139,7 +140,8 @@ fn play_text<B: Books, W: Write>(
     Ok(ExitStatus::Fine)
 }
 
-// Starts the program (`Office`) over a store, at the latest timestamp in the store.
+// Starts the program (`Office`) over a store. The program's time begins at the latest timestamp in
+// the store.
 fn open_office<B: Books>(alloc: Global, books: B) -> Result<Office<B>, Refusal> {
     let mut books = books;
     let moment = match books.latest() {
@@ -171,10 +173,10 @@ fn play_books<B: Books, W: Write>(
     }
 }
 
-/// Runs a script as [`replay`](crate::replay) does, over any store.
+/// Runs a script over any store, as [`replay`](crate::replay) does over a store in memory.
 ///
-/// Timestamps continue from the latest timestamp of the store, which is 0 in a new store. Days are
-/// civil days in the store's time zone.
+/// The script's time begins at the latest timestamp of the store, which is 0 in a new store. Days
+/// are civil days in the store's time zone.
 pub fn replay_books<B: Books, R: Read, W: Write>(
     alloc: Global,
     books: B,

@@ -1,5 +1,5 @@
 -- Proofs that the parser returns a script line (a command, an event or a query) if and only if the
--- words spell this line.
+-- given words spell this line.
 use Rattle.std.proofs.Common.{◌≡◌, ℕ, List, [], ◌∷◌, Some, None, Option, refl, sym, ◌∙◌, subst}
 use Rattle.std.specs.Prelude.{codes}
 use Rattle.office_events.specs.declared.commands.Command.TheVariants as command
@@ -163,7 +163,7 @@ pub read_form : (words : List (List ℕ)) (said : ScriptLine) → line_said word
 read_form [] said h = cc h
 read_form (first ∷ words) said h = from_form (number_of first) first words said refl h
 
--- If the words spell the fields of a script line, then the parser returns that script line.
+-- If the given words spell the fields of a script line, then the parser returns that script line.
 
 timed_read : (v : Verb) (at : ℕ) (values : Values (kinds_of v)) (words : List (List ℕ))
     → Spell words (Of Number at ∷ Word (verb_text v) ∷ fields (kinds_of v) values) → line_said words ≡ Some (line_of v at values)

@@ -1,5 +1,5 @@
--- Lemmas on several texts that are written one after another to a writer, where the last write may
--- fail.
+-- Lemmas: if texts are written one after another and the last write may fail, the writer received a
+-- beginning of their concatenation.
 use Rattle.std.proofs.Common.{◌≡◌, ◌<◌, ℕ, zero, suc, Option, Some, None, List, [], ◌∷◌, ◌++◌, length, take, drop, get_or, refl, sym, ◌∙◌, ap, append_assoc, arith}
 use Rattle.std.specs.List.{flat_map}
 use Rattle.std.specs.Prelude.{Ok, Err, IsErr, OnOk}
@@ -64,8 +64,8 @@ pub got_at : {X Y E : Type 0} (f : X → List ℕ) (xs : List X) (i : ℕ) (d : 
 got_at f xs i d result a b c inside failed first second =
     got_some f xs i (get_or xs i d) result a b c inside (same_inside xs i d (get_or xs i d) inside) failed first second
 
--- If a writer received the text `x`, completely or in part, and `y` equals `x`, then the same is
--- true for `y`.
+-- If a writer received the text `x`, completely or in part, and `y` equals `x`, then the writer
+-- received `y`, completely or in part.
 pub got_this : {X E : Type 0} (result : Result X E) (a b : Option (List ℕ)) (x y : List ℕ) → x ≡ y → GotText result x a b → GotText result y a b
 got_this result a b x y same got = rw same at got
 

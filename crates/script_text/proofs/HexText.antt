@@ -1,4 +1,4 @@
--- Lemmas on writing the hex text of bytes in pieces of a few bytes each.
+-- Lemmas: the hex text of bytes can be written in pieces of a few bytes each.
 use Rattle.std.proofs.Common.{◌≡◌, ◌/◌, ◌%◌, ℕ, List, [], ◌∷◌, ◌++◌, Option, take, drop, refl, sym, ap, ◌∙◌, append_assoc, append-nil, take-append-drop}
 use Rattle.std.specs.Prelude.{slice_index, IsErr, IsOk, OnOk, Ok, Err}
 use Rattle.std.specs.declared.result.Result.{Result}
@@ -15,7 +15,7 @@ encode_lower-append [] ys = refl
 encode_lower-append (x ∷ xs) ys =
     ap (λ (more : List ℕ). slice_index lower_digits (x / 16) ∷ slice_index lower_digits (x % 16) ∷ more) (encode_lower-append xs ys)
 
--- A writer that received no bytes received the hex text of zero bytes.
+-- If a writer received nothing, it received the hex text of the empty byte string.
 pub none_got : (a : Option (List ℕ)) → Appends a a (encode_lower [])
 unfolding encode_with
 none_got a = Appends-nil a

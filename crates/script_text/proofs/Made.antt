@@ -1,18 +1,19 @@
 -- Lemmas on the function `made`, which parses the words of a script line: its result has the values
--- that the words spell.
+-- that these words spell.
 use Rattle.std.proofs.Common.{◌≡◌, ℕ, List, [], ◌∷◌, Some, None, Option, refl, sym, ap, ◌∙◌, subst}
 use Rattle.std.specs.Prelude.{option_map}
 use Rattle.script_text.specs.LineWords.Fields.{Kind, Value, Field, Of, Spell, first_value, missing, spelled, ◌>>=◌}
 use Rattle.script_text.specs.LineReader.{Values, made}
 use Rattle.script_text.proofs.Chosen.{same}
 
--- The fields of a script line whose values have the given kinds and the given values.
+-- The fields of a script line: at each index, the field has the kind in `kinds` and the value in
+-- `values`.
 abbrev pub fields : (kinds : List Kind) → Values kinds → List Field
 fields [] values = []
 fields (kind ∷ kinds) values = Of kind values.0 ∷ fields kinds values.1
 
 -- If two parsing steps in sequence return a result, then the first step returned a value, and the
--- second step returned the result for it.
+-- second step returned the result for this value.
 pub bound : {X Y : Type 0} (o : Option X) (f : X → Option Y) (y : Y) → (o >>= f) ≡ Some y → (x : X) × (o ≡ Some x) × (f x ≡ Some y)
 bound None f y h = cc h
 bound (Some x) f y h = (x, refl, h)

@@ -1,4 +1,5 @@
--- Lemmas on words that spell the name of a device and bytes in hexadecimal.
+-- Lemmas: if words spell the name of a device and bytes in hexadecimal, then parsing these words
+-- returns at least one byte.
 use Rattle.std.proofs.Common.{◌≡◌, inl, inr, ℕ, ◌<◌, ◌&&◌, true, List, [], ◌∷◌, Some, None, Option, refl, sym, ap, ◌∙◌, arith}
 use Rattle.std.specs.Prelude.{nat_le, length, IsSome, Result, Ok, Err}
 use Rattle.std.specs.Result.{result_ok}

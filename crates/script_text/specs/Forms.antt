@@ -82,6 +82,6 @@ abbrev pub HasForm : List (List ℕ) → Option (List Field) → Type 0
 HasForm words None = ⊥
 HasForm words (Some form) = Spell words form
 
--- States that the words spell the given script line (a command, an event or a query).
+-- States that the given words spell the given script line (a command, an event or a query).
 abbrev pub IsLine : List (List ℕ) → ScriptLine → Type 0
 IsLine words line = HasForm words (form_of line)

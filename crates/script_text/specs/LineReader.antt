@@ -25,8 +25,8 @@ Values (kind ∷ kinds) = Value kind × Values kinds
 abbrev pub said_last : ScriptLine → List (List ℕ) → Option ScriptLine
 said_last line words = end_of_words words >>= λ none. Some line
 
--- Parses each word of a script line as a value of its expected kind, and applies `make` to the
--- values. The result is `None` if a word has another kind, or if words are left over.
+-- Parses each word of a script line as a value of its expected kind, and applies the function
+-- `make` to the values. The result is `None` if a word has another kind, or if words are left over.
 abbrev pub made : {X : Type 0} (kinds : List Kind) → (Values kinds → X) → List (List ℕ) → Option X
 made [] make words = end_of_words words >>= λ none. Some (make none)
 made (kind ∷ kinds) make words =
@@ -190,7 +190,7 @@ verbs =
 abbrev pub verb_of : List ℕ → Option Verb
 verb_of word = meaning_in verbs word
 
--- The table of the verbs of queries in script lines, by name.
+-- The table that maps words of a script line to the verbs of queries.
 abbrev pub questions : List (List ℕ × Question)
 questions =
     (codes "meter", question.Meter)
@@ -214,8 +214,8 @@ abbrev pub said_from : Option ℕ → List ℕ → List (List ℕ) → Option Sc
 said_from None word words = question_of word >>= λ question. asked_by question words
 said_from (Some at) word words = timed_said at words
 
--- The script line (a command, an event or a query) that the words spell, or `None` if they spell no
--- line.
+-- The script line (a command, an event or a query) that the given words spell, or `None` if they
+-- spell no line.
 abbrev pub line_said : List (List ℕ) → Option ScriptLine
 line_said [] = None
 line_said (word ∷ words) = said_from (number_of word) word words
@@ -231,6 +231,7 @@ SaysPiece found =
     (device : Option (List ℕ)) × (piece : List ℕ) × (found ≡ Some (device, piece))
     × (0 < length piece)
 
--- States that parsing returned a script line that carries at least one byte.
+-- States that parsing returned a script line with bytes (such as the bytes from a device), and that
+-- there is at least one byte.
 abbrev pub SaysBytes : Option ScriptLine → Type 0
 SaysBytes found = (said : ScriptLine) × (found ≡ Some said) × (0 < length (bytes_in said))

@@ -22,14 +22,16 @@ bytes_in (Event at (Bytes device piece)) = piece
 bytes_in (PointList at list) = list.text
 bytes_in line = []
 
--- States that the words spell a script line that carries at least one byte.
+-- States that the words spell a script line that contains at least one byte of data: received bytes
+-- or the text of a point list.
 pub record BringBytes (words : List (List ℕ)) : Type 0 where
   pub line : ScriptLine
   pub is : IsLine words line
   pub some : 0 < length (bytes_in line)
 
--- States that parsing returns the only script line that the words spell, or `Bad` if the words
--- spell no script line. `Memory` (out of memory) is possible only for a line that carries bytes.
+-- States that parsing returns the only script line that the words spell, or the fault `Bad` if the
+-- words spell no script line. The fault `Memory` (out of memory) is possible only for a line that
+-- carries bytes.
 abbrev pub Reads : List (List ℕ) → Result ScriptLine LineFault → Type 0
 Reads words (Ok line) = IsOnly words line
 Reads words (Err Bad) = (line : ScriptLine) → IsLine words line → ⊥

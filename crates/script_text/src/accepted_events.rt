@@ -1,4 +1,5 @@
-//! Writes the lines for an accepted event: its notifications and its answer.
+//! Writes the lines for an accepted event: its notifications (such as a recorded reading), and its
+//! answer (the started polls, or `ok`).
 ghost use Rattle.std.specs.Prelude.{◌≡◌, ◌++◌, codes, flat_map};
 ghost use Rattle.hex.specs.Hex.{encode_lower};
 ghost use Rattle.sun_points.specs.Writing.{GotText};
@@ -11,7 +12,7 @@ use office_events::{Answer, Note};
 use std::io::{self, Write};
 
 /// Writes a line for each notification (such as a recorded reading) of an accepted event, and then
-/// a line for the answer. `frames` are the Modbus frames to send.
+/// a line for the answer (the started polls, or `ok`). `frames` are the Modbus frames to send.
 pub fn write_accepted<W: Write>(
     answer: &Answer,
     notes: &[Note],
@@ -25,7 +26,8 @@ pub fn write_accepted<W: Write>(
     write_answer(answer, frames, output)
 }
 
-/// Writes one line for each notification, such as a recorded reading, in order.
+/// Writes one line for each notification of an accepted event, such as a recorded reading, in the
+/// order of the slice `notes`.
 pub fn write_notes<W: Write>(notes: &[Note], output: &mut W) -> io::Result<()>
     ensures { GotText result (flat_map text.note_line notes.now)
         (W.contents output.old) (W.contents output.new) }
@@ -37,7 +39,8 @@ pub fn write_notes<W: Write>(notes: &[Note], output: &mut W) -> io::Result<()>
 }
 
 /// Writes the line `started FIRST COUNT OF HEX` if the event started polls, otherwise the line
-/// `ok`. HEX are the Modbus frames to send.
+/// `ok`. FIRST is the number of the first poll, COUNT the number of polls, and OF the number of
+/// reads that cover the device's point list. HEX are the Modbus frames to send.
 pub fn write_answer<W: Write>(answer: &Answer, frames: &[u8], output: &mut W) -> io::Result<()>
     ensures { GotText result (text.answer_line answer.now frames.now)
         (W.contents output.old) (W.contents output.new) }

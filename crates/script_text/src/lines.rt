@@ -12,7 +12,8 @@ use office_events::{EndedPoll, Installation, PollRow, Refusal};
 use point_list::FaultyRow;
 use std::io::{self, Write};
 
-/// Writes the line `refused N`, where N is the numeric code of the reason for the refusal.
+/// Writes the line `refused N` for a refused event or command, where N is the numeric code of the
+/// reason.
 pub fn write_refusal<W: Write>(refusal: Refusal, output: &mut W) -> io::Result<()>
     ensures { GotText result (text.refused_line refusal)
         (W.contents output.old) (W.contents output.new) }
@@ -29,8 +30,9 @@ fn refused_line(refusal: Refusal) -> Line
     line
 }
 
-/// Writes the line `meter NAME last RAW sf SF at MOMENT total MWH open`. The last word is `ended`
-/// for a closed meter.
+/// Writes the line `meter NAME last RAW sf SF at MOMENT total MWH open`: the last count, its scale
+/// factor, its timestamp and the total energy of a meter. The last word is `ended` for a closed
+/// meter.
 pub fn write_meter<W: Write>(row: &Installation, output: &mut W) -> io::Result<()>
     ensures { GotText result (text.meter_line row.now)
         (W.contents output.old) (W.contents output.new) }
@@ -123,7 +125,7 @@ fn fault_line(faulty: &FaultyRow) -> Line
     line
 }
 
-/// Writes the line `bad line N`, which reports that input line N has no valid form.
+/// Writes the line `bad line N`, which reports that input line N is no command, event or query.
 pub fn write_bad_line<W: Write>(number: u64, output: &mut W) -> io::Result<()>
     ensures { GotText result (text.bad_line number)
         (W.contents output.old) (W.contents output.new) }

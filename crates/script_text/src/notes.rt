@@ -10,7 +10,7 @@ use poll_core::Outcome;
 use std::io::{self, Write};
 
 /// Writes the line for a notification: `poll N OUTCOME`, `reading METER RAW rolls R step MWH` for
-/// an accepted reading, or `held METER RAW cause N` for a rejected one.
+/// an accepted reading (R rollovers, MWH mWh), or `held METER RAW cause N` for a rejected one.
 pub fn write_note<W: Write>(note: &Note, output: &mut W) -> io::Result<()>
     ensures { GotText result (text.note_line note.now)
         (W.contents output.old) (W.contents output.new) }

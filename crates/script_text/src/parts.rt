@@ -1,4 +1,4 @@
-//! Writes text, names and hex digits, the parts of a line.
+//! Writes text, names and hex digits, the parts of a printed line.
 ghost use Rattle.std.specs.Prelude.{◌≡◌, ◌++◌, ◌*◌, ◌≤◌, length};
 ghost use Rattle.hex.specs.Hex.{encode_lower};
 ghost use Rattle.sun_points.specs.Writing.{GotText};
@@ -9,7 +9,7 @@ use sun_points::Sink;
 /// The maximum number of bytes that one write prints in hex.
 const PIECE: usize = 32;
 
-/// The maximum number of hex digits in one write.
+/// The maximum number of hex digits that one write to the output prints, two for each byte.
 const DIGITS: usize = 2 * PIECE;
 
 /// Writes the complete text. If the write fails, the writer has received only a beginning of the
@@ -28,7 +28,7 @@ fn write_both<W: Write>(first: &[u8], second: &[u8], output: &mut W) -> io::Resu
     write_text(second, output)
 }
 
-/// Writes a keyword, a name and the rest of a line to the writer, in this order.
+/// Writes a line in three parts to the writer: a keyword, a name, and the text after the name.
 pub(crate) fn write_named<W: Write>(
     word: &[u8],
     name: &[u8],
@@ -42,7 +42,7 @@ pub(crate) fn write_named<W: Write>(
     write_both(name, rest, output)
 }
 
-/// Writes bytes in lower-case hex, at most `PIECE` bytes in one write.
+/// Writes bytes in lower-case hex to the output, at most 32 bytes (`PIECE`) in one write.
 pub(crate) fn write_hex<W: Write>(bytes: &[u8], output: &mut W) -> io::Result<()>
     ensures { GotText result (encode_lower bytes.now)
         (W.contents output.old) (W.contents output.new) }

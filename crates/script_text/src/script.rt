@@ -8,7 +8,8 @@ use office_events::{Event, Name, Piece};
 /// which may be outside the ranges that Modbus allows.
 #[derive(Clone, Copy)]
 pub struct GivenStart {
-    /// The name of the device, or `None` if the word is not a valid name.
+    /// The name of the device. `None` if the name in the script line is not valid (1 to 16 ASCII
+    /// letters, digits, `_` or `-`, with a letter first).
     pub device: Option<Name>,
     pub function: u64,
     pub address: u64,
@@ -35,7 +36,8 @@ impl GivenStart {
 /// The script line with a device's point list as CSV text, which the parser does not check.
 #[derive(Drop)]
 pub struct GivenList {
-    /// The name of the device, or `None` if the word is not a valid name.
+    /// The name of the device. `None` if the name in the script line is not valid (1 to 16 ASCII
+    /// letters, digits, `_` or `-`, with a letter first).
     pub device: Option<Name>,
     pub text: Piece,
 }

@@ -4,7 +4,8 @@ ghost use Rattle.script_text.specs.LineReader.{question_of, verb_of};
 
 use crate::line_words::meaning_in;
 
-/// The verb of an event or a command, whose line begins with a timestamp.
+/// The verb of an event or a command in a script. The line of an event or a command begins with a
+/// timestamp.
 #[derive(Clone, Copy)]
 pub(crate) enum Verb {
     Device,
@@ -26,7 +27,7 @@ pub(crate) enum Verb {
     Failed,
 }
 
-/// The verb of a query, whose line has no timestamp.
+/// The verb of a query in a script. The line of a query has no timestamp.
 #[derive(Clone, Copy)]
 pub(crate) enum Question {
     Meter,

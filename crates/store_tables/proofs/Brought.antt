@@ -1,4 +1,6 @@
--- Proofs of the effect of opening a file, and of the state of the connection afterwards.
+-- Proofs that a call that opens a file satisfies `OpensFile`, the contract of opening a file. An
+-- upgrade of the file keeps the rows of all tables except `meta` and the tables that the upgrade
+-- creates.
 use Rattle.std.proofs.Common.{◌≡◌, inl, inr, ℕ, List, [], ◌∷◌, ◌++◌, map, drop, append-nil, Ok, Err, Result, IsErrAnd, IsTrue, refl, sym, ap, subst, ◌∙◌, arith, IsPermutation}
 use Rattle.std.proofs.lemmas.List.Sorted.{IsPermutation-refl, IsPermutation-trans, IsPermutation-map}
 use Rattle.sqlite.specs.Order.{Row}
@@ -125,8 +127,8 @@ brought_first {E} {D} {F} shown a b c d x r one two three =
       last.2,
     ))
 
--- Lemmas: a call that opens a file satisfies the contract `OpensFile`, and the connection is then
--- open to the file.
+-- Lemmas: a call that opens a file satisfies `OpensFile` (the contract of opening a file), and the
+-- connection is then open to this file.
 
 module _ (layout : Layout) (zone : List ℕ) (content : Content) where
   -- If a query runs before a file is opened, the query and the opening together satisfy the
@@ -167,8 +169,8 @@ module _ (layout : Layout) (zone : List ℕ) (content : Content) where
   passed_on a b e (Ok y) Q fails it = absurd fails
   passed_on a b e (Err d) Q fails it = record { ok = tt; err = it.err; survives = it.survives }
 
-  -- Whether a successful opening of a file satisfies the contract `OpensFile` does not depend on
-  -- the value in Ok.
+  -- Whether a successful opening of a file satisfies `OpensFile` (the contract of opening a file)
+  -- does not depend on the value in Ok.
   pub reported_as : {X Y E D : Type 0} (a b : State) (x : X) (y : Y) → OpensFile {X = X} {E = E} layout zone content a b (Ok x) → OpensFile {X = Y} {E = D} layout zone content a b (Ok y)
   reported_as a b x y it = record { ok = it.ok; err = tt; survives = it.survives }
 

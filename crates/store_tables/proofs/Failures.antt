@@ -71,8 +71,8 @@ passed P e (Err d) fails h = subst P (sym fails) h
 -- Lemmas: a query of the store fails only for a permitted cause, such as out of memory or a failed
 -- disk.
 
--- True if a database with the schema `schema` can answer the query `sql` with the parameters
--- `params`.
+-- True if `sql` is a complete SELECT that a database with the schema `schema` can execute with the
+-- parameters `params`, without an overflow in any content of the tables.
 pub record Suits (schema : Schema) (sql : List ℕ) (params : Row) : Type 0 where
   pub query : Query
   pub names : List (List ℕ)
@@ -139,15 +139,15 @@ pub failed_on : {A : Type 0} (P : A → Type 0) (Q : Error → Type 0) (e : Erro
 failed_on P Q e (Ok a) fails h = absurd fails
 failed_on P Q e (Err d) fails h = subst Q (sym fails) h
 
--- Lemmas: if the second of two calls fails, its cause is also a permitted cause for both calls
--- together.
+-- Lemmas: if the second of two calls fails, its cause (such as out of memory or a failed disk) is
+-- also a permitted cause for both calls together.
 
 pub on_err : {X E : Type 0} {P Q : E → Type 0} (r : Result X E) → ((e : E) → P e → Q e) → IfErr r P → IfErr r Q
 on_err (Ok x) f h = tt
 on_err (Err e) f h = f e h
 
--- The relation `StateAfterCall` between the states before and after a call also relates each state
--- to itself, as if no call was made.
+-- If a call leaves the state of the database unchanged, the relation `StateAfterCall` (how a call
+-- may change the database's state) holds between the states before and after the call.
 pub still_goes : (a : State) → StateAfterCall a a
 still_goes a = record { faults = omega arith; closes = λ is. inl is; limit = refl }
 

@@ -76,7 +76,8 @@ kept [] db next all t has = absurd has
 kept (x ∷ tables) db next all t (inl is) = subst (λ n. next n ≡ db n) (sym is) all.0
 kept (x ∷ tables) db next all t (inr more) = kept tables db next all.1 t more
 
--- Lemmas: one CREATE TABLE statement adds the next empty table to the schema.
+-- Lemmas: executing one CREATE TABLE statement of the store adds that statement's table, without
+-- rows, to the schema.
 
 record IsMade (schema : Schema) (table : Table) (old new : Database) : Type 0 where
   schema_is : new.schema ≡ created schema table
@@ -140,7 +141,8 @@ module _ (n : ℕ) (text : List ℕ) (table : Table)
       going old new (Err e) h = tt
       going old new (Ok count) h = λ content has. grown old.now new.now (makes old new (Ok count) has.schema h) content has
 
--- Lemmas: several CREATE TABLE statements in sequence add several tables.
+-- Lemmas: several CREATE TABLE statements in sequence add all of their tables to the database
+-- schema.
 
 pub first_of : (n : ℕ) (db : Database) (content : Content) → AreTablesIn (first_tables n) db content → ((t : ℕ) → HasTree books_schema.tables t → (HasTree (first_tables n).tables t → ⊥) → content t ≡ []) → HasFirst n db content
 first_of n db content has none = record { schema = has.schema; rows = has.rows; apart = has.apart; none = none }

@@ -74,8 +74,8 @@ module _ {X : Type 0} (numbered : Bool) (columns : X → Row) where
   laid_more rows xs n x h = record { all = (n, x) ∷ h.all; rows = ap (λ rs. laid numbered n (columns x) ∷ rs) h.rows; same = IsPermutation-cons x _ _ h.same }
 
   module _ (test : Row → Bool) (p : X → Bool) (reports : (n : ℤ) (x : X) → test (laid numbered n (columns x)) ≡ p x) where
-    -- If a test of stored rows agrees with the test `p` of values, the rows that pass `test` encode
-    -- exactly the values that pass `p`.
+    -- If a test of stored rows gives the same results as the test `p` of the encoded values, the
+    -- rows that pass encode exactly the passing values.
     chosen : (all : List (Numbered X)) → filter test (map lay all) ≡ map lay (filter (λ (z : Numbered X). p z.1) all)
     chosen [] = refl
     chosen (z ∷ all) = elim (cases_Bool (p z.1)) [

@@ -72,8 +72,8 @@ module _ {S A X : Type 0} (g : Ghosts S) (old new : Held S) (tree : ℕ) (column
       let all = recursion_from_All IsSound (y ∷ found) (All-permutation IsSound _ _ are.all (All-from_recursion IsSound _ (all-filter IsSound passes xs sound))) in
       let same : y ≡ x = cc in subst IsSound same all.0
 
-  -- If the first result row of a look-up's query can't be read, the look-up returns the fault of
-  -- the row's reader.
+  -- If the first result row of a look-up's query can't be parsed, the look-up returns the fault of
+  -- the row's parser.
   pub looked_fault : (IsSeen : X → A → Type 0) (row : Row) (e : RowFault) (r : Result (Option A) RowFault) → slice_get items 0 ≡ Some row → ReadsRow row shown IsSeen IsSound (Err e) → IsErrAnd r (λ d. d ≡ e)
       → LooksUp g old new tree columns IsSound r Answers
   looked_fault IsSeen row e (Ok a) is reads fails = absurd fails
@@ -87,7 +87,8 @@ module _ {S A X : Type 0} (g : Ghosts S) (old new : Held S) (tree : ℕ) (column
         (row_fault (state g old) (state g new) (AllByRecursion IsSound rows) (IsSound one.0) e (λ sound. one_sound rows it.0 one.0 it.1 sound one.1) (reads.fault one.0 one.2));
   }
 
--- Lemmas: a look-up of one integer returns the first column of the first result row.
+-- Lemmas: a query for one integer returns the first column of the first result row. It returns None
+-- without a row, and `Damaged` if the integer is out of its range.
 
 module _ {S X : Type 0} (g : Ghosts S) (old new : Held S) (tree : ℕ) (columns : X → Row) (IsSound : X → Type 0) (asks : Asks g old new) (passes : X → Bool) (Later : X → X → Type 0) (shown : X → Row)
     (items : List Row) (shows : ReportsAnswer {A = List Row} g old new tree columns (Ok items) (ShowsFirst passes Later shown)) (Answers : List X → Option ℕ → Type 0) (low high : ℕ) (of : X → ℕ)

@@ -1,4 +1,5 @@
--- Proofs about the database after a file was created.
+-- Proofs about the database after the creation of a database file: after a successful transaction,
+-- and after a failure before the first call to the database.
 use Rattle.std.proofs.Common.{◌≡◌, inl, ℕ, List, [], Ok, Err, Result, IsErrAnd, refl, arith}
 use Rattle.std.proofs.lemmas.List.Sorted.{IsPermutation-refl}
 use Rattle.sqlite.specs.Effect.{Database}
@@ -26,8 +27,8 @@ filled zone a b c x r one two =
     let turned = turns nothing (grows nothing (blank a.now is)) in
     (turned.0, record { marked = turned.1.rows [] (IsPermutation-refl []); empty = λ t off. turned.1.others t off }, turned.2))
 
--- Whether a successful transaction satisfies the contract `TransactsTo` does not depend on the
--- value in Ok.
+-- Whether a successful transaction satisfies the contract `TransactsTo` (all effects are committed
+-- together, or none) does not depend on the value in Ok.
 pub made_as : {X Y E D : Type 0} (a b : State) (x : X) (y : Y) (Goes : Database → Database → Type 0) → TransactsTo {X = X} {E = E} a b (Ok x) Goes → TransactsTo {X = Y} {E = D} a b (Ok y) Goes
 made_as a b x y Goes it = record { ok = it.ok; err = λ clean. tt; survives = it.survives }
 

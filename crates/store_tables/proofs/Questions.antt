@@ -30,8 +30,8 @@ meta_there First = inl refl
 meta_there Second = inl refl
 meta_there Third = inl refl
 
--- If the model's content of the table `meta` is one row, the stored rows of this table are exactly
--- this row.
+-- If the table `meta` is specified to have exactly one row, then the rows that the database stores
+-- in this table are exactly this row.
 one_row : (rows all : List Row) (m : Meta) → IsPermutation (map (reported true) rows) all → IsPermutation (meta_columns m ∷ []) all → rows ≡ meta_columns m ∷ []
 one_row rows all m is marked = sym (reported_same rows) ∙ one_permutation (meta_columns m) (map (reported true) rows) (IsPermutation-trans _ _ _ marked (IsPermutation-sym _ _ is))
 

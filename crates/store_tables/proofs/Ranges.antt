@@ -36,8 +36,8 @@ none_given x z same = record {
 pub begun : (a : State) → Steps {X = Unit {0}} {E = Error} a a (Ok tt) (GivesRanges [])
 begun a = weaker a a (Ok tt) (Turns (λ content after. after ≡ content)) (Turns (GivesRanges [])) (λ turns content has. let it = turns content has in (it.0, none_given content it.0 it.1, it.2)) (no_steps a tt)
 
--- If a result row has the name of a meter, the row of `ranges` that an upgrade inserts for it
--- belongs to this meter.
+-- If a result row has the name of a meter, the row of the table `ranges` that an upgrade inserts
+-- for this result row belongs to this meter.
 pub range_is : (row : Row) (meter : List ℕ) → column row 0 ≡ Text meter → ◌≡◌ {A = Ranged} (record { meter = meter; range = 4294967296 }) (range_in row)
 range_is row meter is = ap (λ v. record { meter = text_in v; range = 4294967296 }) (sym is)
 

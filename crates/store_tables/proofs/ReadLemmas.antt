@@ -1,4 +1,5 @@
--- Proofs about readers that read a result row column by column.
+-- Lemmas about readers, which are functions that read a result row column by column. A reader
+-- returns the values of the columns, and reports `Damaged` only if a value is out of its range.
 use Rattle.std.proofs.Common.{◌≡◌, ◌≢◌, ◌≤◌, inl, inr, ℕ, ℤ, pos, nat_le, Bool, true, false, ◌&&◌, if◌then◌else◌, Option, Some, None, Ok, Err, Result, IfOk, IfErr, IsTrue, refl, sym, ap, subst, ◌∙◌}
 use Rattle.std.proofs.lemmas.Bool.{le-leb, leb-true, and_parts}
 use Rattle.mb_wire.specs.declared.span.ReadFunction.{ReadFunction}
@@ -13,8 +14,8 @@ use Rattle.store_tables.specs.Failing.{IsRowFault}
 use Rattle.store_tables.specs.Columns.{whole_in, within, is_within, function_in, or_damaged, and_then}
 use Rattle.store_tables.specs.Asking.{ReadsRow}
 
--- True if a reader's Ok value satisfies `Is`, and the reader reports `Damaged` only for a row with
--- a value out of its range.
+-- True if a reader's Ok value satisfies the condition `Is`, and the reader reports `Damaged` only
+-- for a row with a value out of its range.
 pub record IsFair {A : Type 0} (Sound : Type 0) (Is : A → Type 0) (result : Result A RowFault) : Type 0 where
   pub read : IfOk result Is
   pub fault : IfErr result (IsRowFault Sound)
@@ -30,8 +31,9 @@ module _ {A B : Type 0} (Sound : Type 0) (Is : B → Type 0) (next : A → Resul
   tested true x sound rest = rest
   tested false x sound rest = record { read = tt; fault = λ is. let f = sound is in cc }
 
-  -- If the first column of a row is in its range, and the other columns are read correctly, the row
-  -- is read correctly.
+  -- If the first column of a row is in its range, and the reader of the other columns satisfies
+  -- `IsFair`, the reader of the complete row satisfies `IsFair`. `IsFair` is the contract of a
+  -- reader.
   pub fair_some : (o : Option A) (x : A) → o ≡ Some x → IsFair Sound Is (next x) → IsFair Sound Is (and_then (or_damaged o) next)
   fair_some o x is rest = rw is rest
 
@@ -40,8 +42,9 @@ both true b e f = f
 both false b e f = absurd (let g = e in cc)
 
 module _ {B : Type 0} (Sound : Type 0) (Is : B → Type 0) where
-  -- If a row begins with an integer from `low` to `high`, and its other columns are read correctly,
-  -- the row is read correctly.
+  -- If a row begins with an integer from `low` to `high`, and the reader of the other columns
+  -- satisfies `IsFair`, the reader of the row satisfies `IsFair`. `IsFair` is the contract of a
+  -- reader.
   pub fair_whole : (next : ℕ → Result B RowFault) (low high n : ℕ) → (Sound → (low ≤ n) × (n ≤ high)) → IsFair Sound Is (next n) → IsFair Sound Is (and_then (or_damaged (whole_in low high (Int (pos n)))) next)
   fair_whole next low high n sound rest = tested Sound Is next (nat_le low n && nat_le n high) n (λ is. both _ _ (le-leb low n (sound is).0) (le-leb n high (sound is).1)) rest
 
@@ -52,13 +55,14 @@ module _ {B : Type 0} (Sound : Type 0) (Is : B → Type 0) where
   if_fair true x sound is = record { read = is; fault = tt }
   if_fair false x sound is = record { read = tt; fault = λ s. let f = sound s in cc }
 
-  -- If one reader of a row's first columns and one reader of its other columns are correct, both in
-  -- sequence are correct.
+  -- If one reader of a row's first columns and one reader of its other columns satisfy `IsFair`
+  -- (the contract of a reader), both readers in sequence satisfy `IsFair`.
   pub fair_then : {A : Type 0} (Part : Type 0) (a : A) (first : Result A RowFault) (next : A → Result B RowFault) → (Sound → Part) → IsFair Part (λ x. x ≡ a) first → IsFair Sound Is (next a) → IsFair Sound Is (and_then first next)
   fair_then Part a (Ok x) next part one rest = subst (λ y. IsFair Sound Is (next y)) (sym one.read) rest
   fair_then Part a (Err e) next part one rest = record { read = tt; fault = less_sound Sound Part part e one.fault }
 
--- If a row consists of one integer from `low` to `high`, the row is read correctly.
+-- If a row consists of one integer from `low` to `high`, the reader that checks these bounds
+-- satisfies `IsFair` (the contract of a reader).
 pub fair_last : (Sound : Type 0) (Is : ℕ → Type 0) (low high n : ℕ) → (Sound → (low ≤ n) × (n ≤ high)) → Is n → IsFair Sound Is (or_damaged (whole_in low high (Int (pos n))))
 fair_last Sound Is low high n sound is = if_fair Sound Is (nat_le low n && nat_le n high) n (λ s. both _ _ (le-leb low n (sound s).0) (le-leb n high (sound s).1)) is
 
@@ -67,10 +71,11 @@ pub then_read : {A B : Type 0} (first : Result A RowFault) (next : A → Result 
 then_read (Ok a) next b e = (a, refl, e)
 then_read (Err f) next b e = absurd (let g = e in cc)
 
--- Lemmas: if a row was read successfully, each of its values is within its bounds.
+-- Lemmas: if a row was read successfully, each of its values is within the bounds that the reader
+-- checks.
 
--- True if reading a row returned `b`: the first column has a valid value, and `next` returned `b`
--- from the other columns.
+-- True if reading a row returned `b`: the reader found a permitted value in the first column, and
+-- `next` returned `b` from the other columns.
 pub record HasRead {X B : Type 0} (o : Option X) (next : X → Result B RowFault) (b : B) : Type 0 where
   pub value : X
   pub is : o ≡ Some value
@@ -117,7 +122,8 @@ pub or_is : {A : Type 0} (o : Option A) (a : A) → or_damaged o ≡ Ok a → o 
 or_is (Some b) a e = ap Some (ok_is e)
 or_is None a e = absurd (let f = e in cc)
 
--- Lemmas: an integer that was read from the first column is within its bounds.
+-- Lemmas: an integer that was read from the first column is within the bounds `low` and `high` that
+-- the reader checks.
 
 pub number_bounds : (low high : ℕ) (row : Row) (r : Result ℕ RowFault) → r ≡ or_damaged (whole_in low high (column row 0)) → IfOk r (λ n. (low ≤ n) × (n ≤ high))
 number_bounds low high row (Err f) is = tt

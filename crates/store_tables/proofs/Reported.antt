@@ -1,4 +1,5 @@
--- Proofs of what opening a file reports about the row of `meta`.
+-- Proofs of what opening a file reports about the row of the table `meta` (the file's version and
+-- time zone).
 use Rattle.std.proofs.Common.{◌≡◌, ◌⊎◌, ◌≢◌, ◌≤◌, inl, inr, ℕ, length, IsSome, IsTrue, ◌==◌, eqb-true, eq-eqb, true, false, Ok, Err, Result, OnOk, IfOk, IfErr, IsErrAnd, refl, sym, ap, subst, ◌∙◌, arith}
 use Rattle.std.proofs.lemmas.Result.{IfOk-weaker}
 use Rattle.std.specs.Prelude.{IsUtf8}
@@ -26,7 +27,8 @@ apart_from : (e d f g : OpenFault) → (e ≡ d) ⊎ (e ≡ f) → d ≢ g → f
 apart_from e d f g (inl is) off away same = off (sym is ∙ same)
 apart_from e d f g (inr is) off away same = away (sym is ∙ same)
 
--- Lemmas: if the database itself fails, the fault is `Store` or `Memory`.
+-- Lemmas: if the database itself fails while a file is opened, the reported fault is `Store` or
+-- `Memory`.
 
 own_kind : (a b : State) (e : OpenFault) → IsOwnFault a b e → (e ≡ Store) ⊎ (e ≡ Memory)
 own_kind a b Store own = inl refl
@@ -51,7 +53,8 @@ later_own a b c Memory goes own = tt
 later_own a b c NotOurs goes own = absurd own
 later_own a b c NoZone goes own = absurd own
 
--- Lemmas on the result of opening a file, given the file's version and time zone.
+-- Lemmas on the result of opening a file, given the version and the time zone in the file's table
+-- `meta`.
 
 -- If the database itself fails, the contract of opening a file is satisfied, whatever version and
 -- time zone the file has.
@@ -73,8 +76,8 @@ pub reports_err : (version : ℕ) (m : Meta) (a b : State) (e : OpenFault) (r : 
 reports_err version m a b e (Ok z) fails it = absurd fails
 reports_err version m a b e (Err d) fails it = subst (λ f. ReportsOpening version m a b (Err f)) (sym fails) it
 
--- If the database fails after the file was accepted, the result of opening the file is the
--- database's fault.
+-- If the checks accept a database file, and a later call of the database then fails, the result of
+-- opening the file is the fault of this call.
 pub reports_later : (version : ℕ) (m : Meta) (a b c : State) (z : Zone) (e : OpenFault) (r : Result Zone OpenFault) → (version ≡ 3 → ⊥) → ReportsOpening version m a b (Ok z) → (e ≡ Store) ⊎ (e ≡ Memory) → IsErrAnd r (λ d. d ≡ e) → KeepsCommit a c → ReportsOpening version m a c r
 reports_later version m a b c z e (Ok y) earlier it is fails kept = absurd fails
 reports_later version m a b c z e (Err d) earlier it is fails kept =
@@ -100,8 +103,8 @@ reports_well version m a b c z it = record {
   kept = tt;
 }
 
--- If a call that commits nothing runs before the query of `meta`, the call and the query together
--- satisfy the contract of opening the file.
+-- If a call that commits nothing runs before the query of the table `meta`, the call and the query
+-- together satisfy the contract of opening the file.
 pub reports_since : (version : ℕ) (m : Meta) (a b c : State) (r : Result Zone OpenFault) → StateAfterCall a b → KeepsCommit a b → ReportsOpening version m b c r → ReportsOpening version m a c r
 reports_since version m a b c (Ok z) goes kept it = record {
   other = λ off. ((it.other off).0, tt);
@@ -152,8 +155,8 @@ none_of : (P : Type 0) (Q : Zone → Type 0) (r : Result Zone OpenFault) → (P 
 none_of P Q (Ok z) out h = out h.1
 none_of P Q (Err e) out h = tt
 
--- If `meta` has the expected version, the result is the file's time zone, or a fault about the time
--- zone.
+-- If the table `meta` has the version that the opening expects, the result of the opening is the
+-- file's time zone, or a fault about the time zone.
 pub reports_zone : (version : ℕ) (m : Meta) (r : Result Zone OpenFault) → m.version ≡ version → IfErr r (λ e. (e ≡ NoZone) ⊎ (e ≡ Memory)) → IfOk r (λ z. HasRule m.zone z × IsZone m.zone)
     → (IsUtf8 m.zone → IsZone m.zone → IfErr r (λ e. e ≢ NoZone)) → ReadsMeta version m r
 reports_zone version m r same fault zone rule = record {

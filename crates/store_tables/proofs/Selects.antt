@@ -1,4 +1,5 @@
--- Proofs about the result rows of a SELECT from one table.
+-- Proofs that a SELECT from one table returns the rows that pass its WHERE test, in the order of
+-- its ORDER BY clause, up to its LIMIT.
 use Rattle.std.proofs.Common.{◌≡◌, ◌≤◌, ◌<ℤ◌, ℕ, ℤ, suc, pos, List, [], ◌∷◌, map, filter, drop, take, length, Bool, true, false, Option, Some, None, option_map, slice_get, Ordering, Less, Equal, Greater, is_lt, is_gt, refl, sym, ap, subst, ◌∙◌, arith, IsPermutation, IsSorted}
 use Rattle.std.specs.List.{AllByRecursion}
 use Rattle.std.specs.Cmp.{IsTotalOrder}
@@ -53,7 +54,8 @@ module _ {X : Type 0} (cmp : X → X → Ordering) (total : IsTotalOrder cmp) wh
       let up = ascends xs tail in
       (below_all x xs sorted up, up)
 
--- Lemmas: a SELECT with WHERE, ORDER BY and LIMIT returns the matching rows in order.
+-- Lemmas: a SELECT with WHERE, ORDER BY and LIMIT returns the rows that pass the WHERE test, in the
+-- order of the ORDER BY clause.
 
 module _ {X : Type 0} (tree : ℕ) (tests project : List Term) (order : List (Term × Key)) (limit : Term) (params : Row) (columns : X → Row) (p : X → Bool) (shown : X → Row) (R : X → X → Type 0)
     (reports : (n : ℤ) (x : X) → passes params tests (laid (is_numbered tree) n (columns x)) ≡ p x) (reports_columns : (n : ℤ) (x : X) → shows params project (laid (is_numbered tree) n (columns x)) ≡ shown x)
@@ -89,8 +91,8 @@ module _ {X : Type 0} (tree : ℕ) (tests project : List Term) (order : List (Te
         a.shown ∙ ap (page query params) (ap (map (λ (o : Output). o.1)) moved.2 ∙ shown_all moved.0),
       )
 
-  -- If an SQL text compiles to a SELECT from one table of the store, its result has the matching
-  -- rows of the table, in order.
+  -- If an SQL text compiles to a SELECT from one table of the store, its result has the rows that
+  -- pass the WHERE test. The rows are in the order of the ORDER BY clause.
   pub selects : (old new : State) (text : List ℕ) (names : List (List ℕ)) (content : Content) (xs : List X) (rows : List Row) → HasTree books_schema.tables tree → AreTables old.now content → HasRows tree columns xs content
       → command_of (understood books_schema text) ≡ Select (record { lets = []; body = query }) names → reads_listing books_schema text ≡ false → IsPlain (understood books_schema text)
       → Shown text params old new rows → (found : List X) × AreFound p R xs found × (rows ≡ page query params (map shown found))
@@ -99,7 +101,8 @@ module _ {X : Type 0} (tree : ℕ) (tests project : List Term) (order : List (Te
       let apart = has.apart tree there in
       selected old.now.trees rows xs (laid_from (is_numbered tree) columns (old.now.trees tree) (content tree) xs apart.keyed (has.rows tree there) are) (got.answer Null)
 
--- Lemmas: if a SELECT has LIMIT 1, its result has the first matching row, or no row.
+-- Lemmas: if a SELECT has LIMIT 1, its result has the first row (by ORDER BY) that passes the WHERE
+-- test, or no row.
 
 empty_only : {X : Type 0} (xs : List X) → IsPermutation xs [] → xs ≡ []
 empty_only [] same = refl
@@ -118,7 +121,8 @@ module _ {X A : Type 0} (passes : X → Bool) (IsSeen : X → A → Type 0) wher
   last_some key xs [] x a h is seen = absurd (let e = is in cc)
   last_some key xs (y ∷ found) x a h is seen = let same : y ≡ x = cc in (y, subst (λ z. IsSeen z a) (sym same) seen, found, h.all, h.order.0)
 
--- Lemmas: SQLite's order of integers agrees with the order of natural numbers.
+-- Lemmas: SQLite's comparison of two integers that are not negative has the same result as the
+-- comparison of these natural numbers.
 
 not_above : (a b : ℕ) (o : Ordering) → MatchOrdering o (pos a <ℤ pos b) (pos a ≡ pos b) (pos b <ℤ pos a) → is_gt o ≡ false → a ≤ b
 not_above a b Less h e = omega (arith, ints)

@@ -1,4 +1,5 @@
--- Proofs about calls in sequence inside one transaction.
+-- Lemmas on contracts of database calls inside one transaction: of two calls in sequence, of a
+-- failed call, and of a query, which changes no row.
 use Rattle.std.proofs.Common.{◌≡◌, inl, inr, ℕ, List, true, Ok, Err, Result, IsTrue, OnOk, OnErr, IfOk, IfErr, [], false, refl, sym, subst, ◌∙◌, arith, ◌⊎◌}
 use Rattle.sqlite.specs.declared.error.Error.{Error}
 use Rattle.sqlite.specs.Order.{Row}
@@ -95,7 +96,8 @@ no_steps a x = record {
 pub failed : {X Y D E : Type 0} (a b : State) (e : D) (d : E) (P Q : Database → Database → Type 0) → StepsTo {X = X} a b (Err e) P → StepsTo {X = Y} a b (Err d) Q
 failed a b e d P Q one = record { kept = one.kept; inside = λ clean inside. tt; rows = λ clean inside. tt; survives = one.survives }
 
--- The effect of a successful call inside a transaction does not depend on its Ok value.
+-- Suppose that a call inside a transaction returned Ok with some value, and satisfies the contract
+-- `StepsTo`. Then the same effect with any other Ok value satisfies the contract too.
 pub answered : {X Y D E : Type 0} (a b : State) (x : X) (y : Y) (P : Database → Database → Type 0) → StepsTo {X = X} {E = D} a b (Ok x) P → StepsTo {X = Y} {E = E} a b (Ok y) P
 answered a b x y P one = record { kept = one.kept; inside = one.inside; rows = one.rows; survives = one.survives }
 
@@ -202,7 +204,7 @@ shown_still sql params old new (Ok x) rows plain ok inside = let same = shown_sa
 shown_still sql params old new (Err e) rows plain ok inside = tt
 
 -- One query inside a transaction satisfies `AsksInside`: if it succeeds, the transaction stays open
--- with the same rows.
+-- and no row is changed.
 pub asks_inside : {S X : Type 0} (g : Ghosts S) (sql : List ℕ) (params : Row) (old new : Held S) (r : Result X Error) (rows : X → List Row) → IsPlain (understood books_schema sql)
     → (HasCleanDisk (state g new) → IfOk r (λ x. Shown sql params (state g old) (state g new) (rows x)))
     → (HasCleanDisk (state g new) → IfErr r (λ e. FailsToQuery sql params (state g old) (state g new) e ⊎ IsTooLate sql params (state g old) (state g new) e))

@@ -63,7 +63,7 @@ module _ (t : Table) (at : ℕ) (place : slice_get books_schema.tables at ≡ So
     news_are [] = refl
     news_are (r ∷ rows) = ap (λ rs. made r ∷ rs) (news_are rows)
 
-    -- The effect of an UPDATE: each row that passes the test is changed, and keeps its rowid.
+    -- The effect of an UPDATE: each row that passes the WHERE test is changed, and keeps its rowid.
     record Changes (old new : Database) : Type 0 where
       rewrites : Rewrites books_schema k old new
       rows : AreApart (old.trees k) → IsPermutation (map (changed chosen made) (old.trees k)) (new.trees k)
@@ -121,7 +121,7 @@ module _ (t : Table) (at : ℕ) (place : slice_get books_schema.tables at ≡ So
   gone_are [] = refl
   gone_are (r ∷ rows) = ap (λ ids. id_of r ∷ ids) (gone_are rows)
 
-  -- The effect of a DELETE: the rows that pass the test are deleted, and no other row.
+  -- The effect of a DELETE: the rows that pass the WHERE test are deleted, and no other row.
   record Goes (old new : Database) : Type 0 where
     rewrites : Rewrites books_schema k old new
     rows : AreApart (old.trees k) → new.trees k ≡ filter (λ r. not (chosen r)) (old.trees k)

@@ -1,4 +1,5 @@
--- Proofs of the effect of the SQL statements on `meta`.
+-- Proofs that the SQL statements on the table `meta` insert its row and set its version, and change
+-- nothing else.
 use Rattle.std.proofs.Common.{◌≡◌, ℕ, pos, List, [], ◌∷◌, Result, OnOk, refl}
 use Rattle.sqlite.specs.declared.types.Value.TheVariants.{Text}
 use Rattle.sqlite.specs.declared.error.Error.{Error}

@@ -1,11 +1,11 @@
--- How the answer of a query follows from the rows of a table.
+-- Relations between the answer of a query and the rows of the table that the query reads.
 use Rattle.std.specs.Prelude.{⊤, ◌≡◌, ◌≤◌, ℕ, Bool, true, List, [], ◌∷◌, filter, Option, Some, None}
 use Rattle.std.specs.List.{AllByRecursion}
 use Rattle.std.specs.List.Sorted.{IsPermutation}
 use Rattle.sqlite.specs.Tree.{IsAscending}
 
--- True if a result lists the rows that pass a test, and `Later` relates each row to every row after
--- it in the result.
+-- True if a result lists the rows that pass a WHERE test, and the order relation `Later` relates
+-- each row to every row after it in the result.
 pub record AreFound {X : Type 0} (passes : X → Bool) (Later : X → X → Type 0)
     (rows found : List X) : Type 0 where
   pub all : IsPermutation (filter passes rows) found

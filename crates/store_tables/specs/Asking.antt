@@ -1,4 +1,5 @@
--- What a query leaves unchanged, and how its answer follows from the rows of a table.
+-- What a query leaves unchanged, and relations between its answer and the rows of the table that
+-- the query reads.
 use Rattle.std.specs.Prelude.{◌≡◌, ℕ, Bool, false, List, take, map, Result, Vec, IsTrue, IfOk, IfErr, OnOk, MatchResult}
 use Rattle.std.specs.List.{AllByRecursion}
 use Rattle.sqlite.specs.Order.{Row}
@@ -21,8 +22,8 @@ pub record Asks {S : Type 0} (g : Ghosts S) (old new : Held S) : Type 0 where
   pub survives : (content : Content) → AreTables (state g old).now content
       → Survives (state g old) (state g new) (λ _. ⊥)
 
--- What a query inside a transaction leaves unchanged: it commits nothing. If it succeeds, the
--- transaction stays open with the same rows.
+-- What a query inside a transaction leaves unchanged: it commits nothing. If the query succeeds,
+-- the transaction stays open and no row is changed.
 pub record AsksInside {S X E : Type 0} (g : Ghosts S) (old new : Held S) (result : Result X E) :
     Type 0 where
   pub kept : HasCleanDisk (state g new) → (content : Content) → AreTables (state g old).now content
@@ -34,22 +35,22 @@ pub record AsksInside {S X E : Type 0} (g : Ghosts S) (old new : Held S) (result
   pub survives : Survives (state g old) (state g new) (λ _. ⊥)
 
 -- True if a list of result rows is the result of a SELECT: the rows that pass the WHERE test, in
--- the order `Later`.
+-- the order that the relation `Later` defines.
 abbrev pub Shows : {X : Type 0} → (passes : X → Bool) → (Later : X → X → Type 0) → (shown : X → Row)
     → (rows : List X) → (answer : List Row) → Type 0
 Shows {X} passes Later shown rows answer =
     (found : List X) × AreFound passes Later rows found × (answer ≡ map shown found)
 
--- True if a list of result rows is the result of a SELECT with LIMIT 1: the first matching row, or
--- nothing if none matches.
+-- True if `answer` is the result of a SELECT with LIMIT 1: the first row, in the order `Later`,
+-- that passes the WHERE test. The result is empty if no row passes.
 abbrev pub ShowsFirst : {X : Type 0} → (passes : X → Bool) → (Later : X → X → Type 0)
     → (shown : X → Row) → (rows : List X) → (answer : List Row) → Type 0
 ShowsFirst {X} passes Later shown rows answer =
     (found : List X) × AreFound passes Later rows found × (answer ≡ take 1 (map shown found))
 
--- True if an Ok answer of a query follows from the rows of one table, and any error has a permitted
--- cause. Permitted causes are out of memory, a closed database, a failed disk and SQLite's limit of
--- steps.
+-- True if an Ok answer of a query has the relation `Answers` to the rows of one table, and any
+-- error has a permitted cause. Permitted causes are out of memory, a closed database, a failed disk
+-- and SQLite's limit of steps.
 abbrev pub ReportsAnswer : {S A X : Type 0} → Ghosts S → (old new : Held S) → (tree : ℕ)
     → (columns : X → Row) → (result : Result A Error) → (Answers : List X → A → Type 0) → Type 0
 ReportsAnswer {S} {A} {X} g old new tree columns result Answers =
@@ -57,8 +58,9 @@ ReportsAnswer {S} {A} {X} g old new tree columns result Answers =
     → (rows : List X) → HasRows tree columns rows content
     → MatchResult result (Answers rows) (IsStoreError (state g old) (state g new))
 
--- True if the rows of an Ok answer follow from the rows of one table, and any error has a permitted
--- cause. Examples of permitted causes are out of memory and a failed disk.
+-- True if the result rows of an Ok answer have the relation `Answers` to the rows of one table, and
+-- any error has a permitted cause. Examples of permitted causes are out of memory and a failed
+-- disk.
 abbrev pub ReportsRows : {S X Z : Type 0} → Ghosts S → (old new : Held S) → (tree : ℕ)
     → (columns : X → Row) → (result : Result (Vec Row Z) Error)
     → (Answers : List X → List Row → Type 0) → Type 0
@@ -72,9 +74,9 @@ pub record ReadsRow {A X : Type 0} (row : Row) (shown : X → Row) (IsSeen : X �
   pub read : (x : X) → row ≡ shown x → IfOk result (IsSeen x)
   pub fault : (x : X) → row ≡ shown x → IfErr result (IsRowFault (IsSound x))
 
--- True if a function runs one query, and its Ok answer follows from the table's rows. The function
--- reports `Damaged` only if a row has a value out of its range. Any other fault has a permitted
--- cause, such as out of memory or a failed disk.
+-- True if a function runs one query, and its Ok answer has the relation `Answers` to the table's
+-- rows. The function reports `Damaged` only if a row has a value out of its range. Any other fault
+-- has a permitted cause, such as out of memory or a failed disk.
 pub record LooksUp {S A X : Type 0} (g : Ghosts S) (old new : Held S) (tree : ℕ) (columns : X → Row)
     (IsSound : X → Type 0) (result : Result A RowFault) (Answers : List X → A → Type 0) : Type 0
   where

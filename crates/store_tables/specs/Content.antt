@@ -22,8 +22,8 @@ HasTree (x ∷ xs) t = (t ≡ x.tree) ⊎ HasTree xs t
 abbrev pub Content : Type 0
 Content = ℕ → List Row
 
--- True if the table with the given tree number has an integer primary key, which is the table's
--- rowid.
+-- True if the table with this number in the database schema has an integer primary key, which is
+-- the table's rowid.
 abbrev pub is_numbered : ℕ → Bool
 is_numbered t = list_any (λ n. n == t) (0 ∷ 1 ∷ 5 ∷ 7 ∷ 11 ∷ 12 ∷ 13 ∷ [])
 
@@ -53,7 +53,8 @@ pub record AreTablesIn (form : Schema) (db : Database) (content : Content) : Typ
   pub apart : (t : ℕ) → HasTree form.tables t → AreApart (db.trees t)
   pub sound : IsDatabase db
 
--- True if a database has the store's schema, and its tables have the rows of a `Content`.
+-- True if a database has the store's schema, and its tables have the rows of a `Content` (a
+-- function that returns the rows of each table).
 abbrev pub AreTables : Database → Content → Type 0
 AreTables = AreTablesIn books_schema
 

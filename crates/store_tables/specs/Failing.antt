@@ -1,4 +1,5 @@
--- Definitions of the permitted causes of an error of a call on the store's tables.
+-- Definitions of the permitted causes of an error of a call on the store's tables, such as out of
+-- memory or a failed disk.
 use Rattle.std.specs.Prelude.{◌≡◌, ◌≤◌, ◌⊎◌, false, IsTrue, IsSome}
 use Rattle.sqlite.specs.declared.error.ErrorCode.TheVariants.{OutOfMemory, OperationInterrupted}
 use Rattle.sqlite.specs.declared.error.Error.{Error}

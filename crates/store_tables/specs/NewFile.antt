@@ -1,4 +1,4 @@
--- The tables of a file that was just created.
+-- Definitions of the tables of a database file that was just created.
 use Rattle.std.specs.Prelude.{◌≡◌, ◌≢◌, ℕ, List, []}
 use Rattle.sqlite.specs.Effect.{Database}
 use Rattle.store_tables.specs.Content.{Content, AreTables}

@@ -1,5 +1,5 @@
--- Definitions of what opening a file reads from `meta`, and of the state of the connection
--- afterwards.
+-- Definitions of what opening a store's database file reads from the table `meta` (the version and
+-- the time zone), and of the connection's state after the opening.
 use Rattle.std.specs.Prelude.{◌≡◌, ◌≢◌, ◌⊎◌, ℕ, [], ◌∷◌, Vec, Result, Err, OnOk, OnErr, IfOk, IfErr, IsUtf8, IsTrue}
 use Rattle.sqlite.specs.Order.{Row}
 use Rattle.sqlite.specs.State.{State, KeepsCommit, Survives, IsUnchanged}
@@ -14,13 +14,14 @@ use Rattle.store_tables.specs.Layouts.{version_of, schema_of}
 use Rattle.store_tables.specs.Meta.{Meta, meta_shown, IsMarked}
 use Rattle.store_tables.specs.Zones.{IsZone}
 
--- True if a query returned the one row of `meta` and changed nothing.
+-- True if a query returned the one row of the table `meta` and changed nothing in the database.
 abbrev pub ShowsMeta : {Z : Type 0} → Content → (old new : State) → Vec Row Z → Type 0
 ShowsMeta content old new rows =
     IsUnchanged old new × ((m : Meta) → IsMarked m content → rows.items ≡ meta_shown m ∷ [])
 
--- The contract of reading `meta`. The result is the time zone, `NotOurs` for an unexpected version,
--- or `Zone` for an invalid time zone. The only other fault is `Memory`.
+-- The contract of reading the table `meta`. The result is the time zone, the fault `NotOurs` for an
+-- unexpected version, or the fault `Zone` for a text that is no POSIX time zone rule. The only
+-- other fault is `Memory`.
 pub record ReadsMeta (version : ℕ) (m : Meta) (result : Result Zone OpenFault) : Type 0 where
   pub other : m.version ≢ version → result ≡ Err NotOurs
   pub ours : m.version ≡ version → IfErr result (λ e. (e ≡ NoZone) ⊎ (e ≡ Memory))
@@ -29,8 +30,8 @@ pub record ReadsMeta (version : ℕ) (m : Meta) (result : Result Zone OpenFault)
   pub none : (IsZone m.zone → ⊥) → OnOk result ⊥
 
 -- The result of opening a file, unless the database itself fails: the time zone, `NotOurs` for an
--- unexpected version, or `Zone` for an invalid time zone. A file of version 3 with a valid time
--- zone is always opened.
+-- unexpected version, or `Zone` for a text that is no POSIX time zone rule. A file of version 3
+-- with a valid time zone is always opened.
 pub record ReportsOpening (version : ℕ) (m : Meta) (old new : State)
     (result : Result Zone OpenFault) : Type 0 where
   pub other : m.version ≢ version

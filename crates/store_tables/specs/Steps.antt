@@ -1,4 +1,5 @@
--- The effect of a call inside a transaction, and the effect of a complete transaction.
+-- Definitions of contracts: the effect of a database call inside a transaction, and the effect of a
+-- complete transaction.
 use Rattle.std.specs.Prelude.{◌≡◌, Result, IsTrue, OnOk, OnErr}
 use Rattle.std.specs.Borrow.{MutBor}
 use Rattle.sqlite.specs.Effect.{Database}
@@ -7,19 +8,21 @@ use Rattle.sqlite.specs.State.{State, HasCleanDisk, KeepsCommit, Survives}
 use Rattle.store_tables.specs.Schema.{books_schema}
 use Rattle.store_tables.specs.Content.{Content, AreTablesIn}
 
--- True if two mutable borrows are of the same connection, so that its owner sees the state that a
--- call left.
+-- True if two mutable borrows are of the same connection, so that the connection's owner sees the
+-- state after a call.
 abbrev pub IsSameBorrow : {X : Type 0} → MutBor X → MutBor X → Type 0
 IsSameBorrow old new = new.ghost_name ≡ old.ghost_name
 
--- Suppose that the old database has the schema with some content. Then the new database has the
--- schema too, and the given relation relates the old content to the new content.
+-- States that a database call keeps the given schema, and that the given relation relates the old
+-- content (the rows of the tables) to the new content. Nothing is stated if the old database has
+-- another schema.
 abbrev pub TurnsIn : Schema → (Content → Content → Type 0) → Database → Database → Type 0
 TurnsIn schema Makes old new = (content : Content) → AreTablesIn schema old content
     → (after : Content) × Makes content after × AreTablesIn schema new after
 
--- Suppose that the old database has the store's schema with some content. Then the new database has
--- this schema too, and the given relation relates the old content to the new content.
+-- States that a database call keeps the store's schema, and that the given relation relates the old
+-- content (the rows of the tables) to the new content. Nothing is stated if the old database has
+-- another schema.
 abbrev pub Turns : (Content → Content → Type 0) → Database → Database → Type 0
 Turns = TurnsIn books_schema
 
@@ -39,8 +42,8 @@ abbrev pub Steps : {X E : Type 0} → State → State → Result X E → (Conten
     → Type 0
 Steps old new result Makes = StepsTo old new result (Turns Makes)
 
--- The contract of a complete transaction. At Ok, it commits all changes, and on an error none. A
--- crash leaves the old rows, or all changes.
+-- The contract of a complete transaction. At Ok, it commits all changes, and on an error none.
+-- After a crash, the file has either the old rows, or all changes.
 pub record TransactsTo {X E : Type 0} (old new : State) (result : Result X E)
     (Goes : Database → Database → Type 0) : Type 0 where
   pub ok : HasCleanDisk new

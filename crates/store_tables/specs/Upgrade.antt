@@ -19,7 +19,7 @@ abbrev pub voids : ℕ
 voids = 20
 
 -- True if a database has the tables of a layout (file version), and `meta` has the layout's version
--- and the time zone `zone`. The tables may have any other rows.
+-- and the time zone `zone`. All tables except `meta` may have any rows.
 pub record IsFile (layout : Layout) (zone : List ℕ) (db : Database)
     (content : Content) : Type 0 where
   pub tables : AreTablesIn (schema_of layout) db content
@@ -46,20 +46,23 @@ HasVoids First content after = after voids ≡ []
 HasVoids Second content after = after voids ≡ []
 HasVoids Third content after = after voids ≡ content voids
 
--- The tables after an upgrade. `meta` has version 3 and the old time zone, and `ranges` and `voids`
--- satisfy `HasRanges` and `HasVoids`. All other tables keep their rows.
+-- The tables after an upgrade. `meta` has version 3 and the old time zone. Each meter of a version
+-- 1 file has a counter range in `ranges`, and a file that had no table `voids` has it without rows.
+-- All other rows are unchanged.
 pub record IsBrought (layout : Layout) (zone : List ℕ) (content after : Content) : Type 0 where
   pub marked : IsMarked (record { version = 3; zone = zone }) after
   pub with_ranges : HasRanges layout content after
   pub with_voids : HasVoids layout content after
   pub others : (t : ℕ) → t ≢ meta → t ≢ ranges → t ≢ voids → after t ≡ content t
 
--- The effect of upgrading a file of a given layout (version) to version 3.
+-- The effect of upgrading a file of a given layout (version) to version 3: the database then has
+-- the tables of version 3, with the rows that `IsBrought` requires.
 abbrev pub Brings : Layout → (zone : List ℕ) → Database → Database → Type 0
 Brings layout zone old new = (content : Content) → IsFile layout zone old content
     → (after : Content) × IsBrought layout zone content after × AreTables new after
 
--- Definitions of the query for the meters of a version 1 file.
+-- Definitions of the query that selects the names of the meters in a database file of version 1 (an
+-- old table layout), before the file is upgraded.
 
 -- The result row that the query for a file's meters returns for a meter. The row has only the
 -- meter's name.
@@ -131,7 +134,7 @@ pub record IsOpenTo (layout : Layout) (zone : List ℕ) (content : Content) (s :
   pub file : IsFile layout zone s.committed content
 
 -- The contract of opening a file of any layout (version): the call satisfies the contract for the
--- file's layout. If the connection is closed, it satisfies the contract for every layout.
+-- file's layout. If the connection is closed, the call satisfies the contract for every layout.
 abbrev pub OpensAnyFile : {X E : Type 0} → (old new : State) → Result X E → Type 0
 OpensAnyFile old new result =
     (layout : Layout) (zone : List ℕ) (content : Content)

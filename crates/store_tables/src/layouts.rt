@@ -16,7 +16,8 @@ pub enum Layout {
 }
 
 impl Layout {
-    /// Returns the version number that `meta` stores in a file of this layout.
+    /// Returns the version number that `meta` stores in a file of this layout (the set of its
+    /// tables).
     pub fn version(self) -> u64
         ensures { result ≡ version_of self }
     {

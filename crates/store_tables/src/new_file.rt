@@ -64,7 +64,7 @@ fn make<S: Alter>(conn: &mut Connection<S>, zone: &str) -> Result<(), OpenFault>
 /// zone. Runs one transaction, whose commit is the last call to the database.
 ///
 /// Faults: `NotOurs` if the database has any table, index or view, or a transaction is open. `Zone`
-/// if `zone` is not a valid time zone.
+/// if `zone` is not a POSIX time zone rule of at most 64 bytes.
 pub fn create<S: Alter>(conn: &mut Connection<S>, zone: &str) -> Result<Zone, OpenFault>
     ensures busy { IsTrue conn.old.in_transaction → result ≡ Err OpenFault.NotOurs }
     ensures others { conn.old.schema ≢ no_schema → result ≡ Err OpenFault.NotOurs }

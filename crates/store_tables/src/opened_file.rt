@@ -84,8 +84,8 @@ fn zone_in(rows: &[Row], version: u64) -> Result<Zone, OpenFault>
     }
 }
 
-/// Returns the time zone of the file. Returns `NotOurs` if `meta` does not have the version of
-/// `layout`.
+/// Returns the time zone of the opened database file. Returns the fault `NotOurs` if the table
+/// `meta` does not have the version of `layout`.
 fn stored_zone<S: Alter>(conn: &mut Connection<S>, layout: Layout) -> Result<Zone, OpenFault>
     ensures clean { HasCleanDisk (state S.Store conn.new) → HasCleanDisk (state S.Store conn.old) }
     ensures mode { conn.old.in_transaction ≡ false → conn.new.in_transaction ≡ false }
@@ -117,8 +117,8 @@ fn brought<S: Alter>(conn: &mut Connection<S>, layout: Layout) -> Result<(), Ope
     }
 }
 
-/// Opens a file of a given version (layout). `check_open` must have returned Ok, so that queries
-/// see the committed rows.
+/// Opens a file of a given version (layout). The caller must have checked that the database is open
+/// and has no open transaction, so that queries see the committed rows.
 fn open_settled<S: Alter>(conn: &mut Connection<S>, layout: Layout) -> Result<Zone, OpenFault>
     requires autocommit { conn.old.in_transaction ≡ false }
     ensures autocommit { conn.new.in_transaction ≡ false }
@@ -134,8 +134,8 @@ fn open_settled<S: Alter>(conn: &mut Connection<S>, layout: Layout) -> Result<Zo
     Ok(zone)
 }
 
-/// Opens a file whose tables have the names of the version (layout) `found`. First checks that the
-/// database is open.
+/// Opens the store in a database file whose tables have the names of the version (layout) `found`.
+/// First checks that the connection to the database is open.
 fn open_as<S: Alter>(conn: &mut Connection<S>, found: Layout) -> Result<Zone, OpenFault>
     requires autocommit { conn.old.in_transaction ≡ false }
     requires named { IsNamedAs conn.old.schema found }
@@ -159,8 +159,9 @@ fn open_as<S: Alter>(conn: &mut Connection<S>, found: Layout) -> Result<Zone, Op
 /// counter that rolls over at 2^32.
 ///
 /// Faults: `NotOurs` if a transaction is open, or if `meta` has another version than the tables.
-/// Also `NotOurs` if the tables don't have the names of version 1, 2 or 3 in their order. `Zone` if
-/// the file's zone is invalid. After a fault the file is unchanged.
+/// Also `NotOurs` if the tables don't have the names of version 1, 2 or 3 in the order of creation.
+/// `Zone` if the file's time zone is not a POSIX rule of at most 64 bytes. After a fault the file
+/// is unchanged.
 #[tactic(auto, using(crate::proofs::Brought::untouched))]
 pub fn open<S: Alter>(conn: &mut Connection<S>) -> Result<Zone, OpenFault>
     ensures busy { IsTrue conn.old.in_transaction

@@ -194,7 +194,7 @@ fn create_first<S: Alter>(tx: &mut Transaction<'_, S>) -> Result<usize, Error>
     create_answers(tx)
 }
 
-/// Creates the tables that versions 2 and 3 added.
+/// Creates the tables `ranges` and `voids`, which versions 2 and 3 of the database file added.
 pub(crate) fn create_last<S: Alter>(tx: &mut Transaction<'_, S>) -> Result<usize, Error>
     ensures same_reference { IsSameBorrow tx.old.conn tx.new.conn }
     ensures does { StepsTo (state S.Store tx.old.conn.now) (state S.Store tx.new.conn.now) result

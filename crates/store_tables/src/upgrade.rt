@@ -35,7 +35,7 @@ fn meter_rows<S: Alter>(conn: &mut Connection<S>) -> Result<Vec<Row>, Error>
     conn.query_all("SELECT meter FROM installations", &[])
 }
 
-/// Reads the name of a meter from a result row of the query for the meters.
+/// Reads the name of a meter from a result row of the query for the meters of a version 1 file.
 fn meter_in(row: &Row) -> Result<String, Error>
     ensures { IfOk result (λ meter. column row.now 0 ≡ Text (string_bytes meter)) }
 {
@@ -75,8 +75,8 @@ fn bring_second<S: Alter>(tx: &mut Transaction<'_, S>) -> Result<usize, Error>
     set_version(tx)
 }
 
-/// Upgrades version 1 in one transaction: creates `ranges` and `voids`, inserts a counter range for
-/// each meter, and sets the version to 3.
+/// Upgrades a file of version 1 in one transaction: creates `ranges` and `voids`, inserts a counter
+/// range for each meter, and sets the version to 3.
 fn add_ranges<S: Alter>(conn: &mut Connection<S>, meters: &[Row]) -> Result<(), Error>
     requires autocommit { conn.old.in_transaction ≡ false }
     ensures autocommit { conn.new.in_transaction ≡ false }
@@ -88,7 +88,7 @@ fn add_ranges<S: Alter>(conn: &mut Connection<S>, meters: &[Row]) -> Result<(), 
     tx.commit()
 }
 
-/// Upgrades version 2 in one transaction: creates `voids`, and sets the version to 3.
+/// Upgrades a file of version 2 in one transaction: creates `voids`, and sets the version to 3.
 fn add_voids<S: Alter>(conn: &mut Connection<S>) -> Result<(), Error>
     requires autocommit { conn.old.in_transaction ≡ false }
     ensures autocommit { conn.new.in_transaction ≡ false }

@@ -1,5 +1,6 @@
-//! Tasks that tests run over a database in memory. Only this file runs them over files in memory,
-//! because each use of the type of a store makes the proofs take longer.
+//! Tasks that tests run over a database in memory. Only the functions of this source file run the
+//! tasks with the concrete type of a store, because each use of this type makes the proofs take
+//! longer.
 use crate::stops::asked::Asked;
 use crate::stops::files::{Stop, Stopping, connected, files};
 use crate::stops::offices::play;
@@ -20,11 +21,11 @@ pub(crate) enum Act {
     Bring,
     /// Runs all steps of a test over a new store: the events of a script, and then a request.
     Play(Asked),
-    /// Asserts which rows the file of version 1 has after a crash during its upgrade. The number
-    /// says how many steps of the upgrade had succeeded.
+    /// Asserts which rows the file of version 1 has after a simulated crash during its upgrade. The
+    /// number says how many steps of the upgrade had succeeded before the crash.
     Brought(usize),
-    /// Asserts which rows the database file has after a crash, given the request and how many steps
-    /// had succeeded.
+    /// Asserts which rows the database file has after a simulated crash, given the test's request
+    /// and how many steps of the test had succeeded before the crash.
     Played(Asked, usize),
     /// The variant `Damage` and the variants below it each run a test that begins with an empty
     /// database.
@@ -59,7 +60,7 @@ fn act_over<S: Alter + Drop>(
     }
 }
 
-/// Runs a test's task over the database in these files. Returns how many steps of the task
+/// Runs a test's task over the database in the given files. Returns how many steps of the task
 /// succeeded, and the files.
 pub(crate) fn act_in(
     rt: &impl Abort,
@@ -98,9 +99,10 @@ static TESTS: [Act; 5] = [
     Act::RefusedFacts,
 ];
 
-// Checks that a store counts its failures, and that opening a database without a store returns the
-// connection to the caller. Also checks the fields of rejected readings, the days of a range, and
-// that refused records leave no row.
+// Checks that a store counts its failed calls. Also checks that a caller that opens a database
+// without the tables of a store gets the connection back. Also checks the fields of the rejected
+// readings that queries return, the number of days in a time range, and that refused records leave
+// no row.
 #[test]
 fn stores_keep_what_they_promise(rt: HostRuntime) {
     for act in &TESTS {

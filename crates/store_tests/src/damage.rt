@@ -1,5 +1,5 @@
 //! Tests a store with damaged rows. A query that reads a damaged row fails, and the store counts
-//! the failure. `tests/damaged_rows.py` damages every column.
+//! the failure. A separate test, `tests/damaged_rows.py`, damages every column.
 use crate::made::{found, opened};
 use crate::refused_facts::known_device;
 use crate::tables::strict;

@@ -1,5 +1,5 @@
-//! Tests that the caller gets the connection back if the database contains no store. Also tests
-//! that no store is created or opened inside a transaction.
+//! Tests that the caller gets the connection back if opening a store fails, for example because the
+//! database contains no store. Also tests that no store is created or opened inside a transaction.
 use office_store::SqlBooks;
 use sqlite::{Alter, Connection};
 use std::alloc::Global;

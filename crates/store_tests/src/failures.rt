@@ -1,10 +1,10 @@
-//! Tests the texts of all failures of a command.
+//! Tests the text that the program prints for each possible failure of one of its commands.
 use office_store::OpenFault;
 use stored_files::{AuditFault, CopyFault, Failure, FileFault};
 use sun_chain::scans::ScanFault;
 use table_audit::SchemaFault;
 
-/// Every failure of a command, with its text.
+/// Test cases: every failure of a command, with the message that the program prints for it.
 static FAILURES: [(Failure<'static>, &str); 43] = [
     (Failure::Memory, "out of memory"),
     (

@@ -56,7 +56,8 @@ static CONNECTIONS: [(FileFault, u8); 5] = [
     (FileFault::Memory, 5),
 ];
 
-// Checks that each fault has its text and its numeric code.
+// Checks that each fault of a database's tables and of its file has the expected text and numeric
+// code.
 #[test]
 fn faults_have_their_texts_and_numbers(rt: HostRuntime) {
     assert_texts(&rt, rt.alloc(), &FILES);

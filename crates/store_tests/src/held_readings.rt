@@ -47,8 +47,8 @@ fn held<S: Alter + Drop>(
     conn
 }
 
-/// Asserts that a query for a span of time returns the given rejected readings of the meter m1, in
-/// the given order.
+/// Asserts that a query for the rejected readings in a span of time returns the given rejected
+/// readings of the meter m1, in the given order.
 fn assert_readings<S: Alter>(
     rt: &impl Abort,
     alloc: Global,

@@ -13,7 +13,8 @@ const STAND: Last = Last {
     sf: 0,
 };
 
-/// Returns the summary of a database file whose meter has the total energy `total`.
+/// Returns the data of a database file with one meter (`m1`), whose total energy is `total`, for
+/// the check that database files continue each other.
 fn file_of(rt: &impl Abort, alloc: Global, file: &'static str, total: u64) -> FiledOffice<'static> {
     let meter = FiledMeter {
         file,
@@ -50,7 +51,8 @@ static TOTALS: [(u64, &[u8]); 2] = [
     ),
 ];
 
-// Checks that the maximum energy of a meter in one file is also the maximum for all files together.
+// Checks that the greatest total energy of a meter in one database file is also the greatest total
+// energy of the meter over all files.
 #[test]
 fn the_energy_of_all_files_has_a_limit(rt: HostRuntime) {
     for (total, printed) in &TOTALS {

@@ -48,8 +48,8 @@ fn days_between<B: Books>(rt: &impl Abort, office: &mut Office<B>, from: &str, t
     counted.count
 }
 
-/// Asserts the number of days with energy in several ranges. A range that ends before its beginning
-/// has no days; no command makes a query for such a range. Returns the store.
+/// Asserts the number of days with energy in several ranges of days. A range that ends before its
+/// beginning has no days; no command makes a query for such a range. Returns the store.
 fn ranges_over<B: Books>(rt: &impl Abort, alloc: Global, books: B) -> B {
     let mut office = opened(rt, alloc, books, 0);
     for line in DAY.lines() {
@@ -61,7 +61,8 @@ fn ranges_over<B: Books>(rt: &impl Abort, alloc: Global, books: B) -> B {
 }
 
 /// Calls the theorems about the energy of several files: functions whose contract states the
-/// theorem. Also asserts the days of several ranges over an empty database, and returns its store.
+/// theorem. Also asserts the number of days in several ranges of days over an empty database, and
+/// returns its store.
 pub(crate) fn files_and_ranges_have_their_days<S: Alter + Drop>(
     rt: &impl Abort,
     alloc: Global,

@@ -1,7 +1,6 @@
 //! Tests of a store in a SQLite database: crashes at each call to its files, failures, and records
-//! that the tables refuse. Also tests how commands over files end, and which messages they print.
-//! Golden tests and tests of the program cover everything that an input text and an output text can
-//! show.
+//! that the tables refuse. Also tests the exit statuses and messages of commands on database files.
+//! Golden tests (stored input and output texts) and tests of the program cover everything else.
 #![tactic(auto)]
 
 #[cfg(test)]

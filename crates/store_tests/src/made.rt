@@ -7,7 +7,8 @@ use sqlite::{Alter, Connection};
 use std::alloc::Global;
 use std::process::Abort;
 
-/// Creates a store in the database of a connection.
+/// Creates the store (the tables of the program's records) with the time zone `zone`, in the
+/// database of a connection. Panics if that fails.
 pub(crate) fn create_store<S: Alter + Drop>(
     rt: &impl Abort,
     alloc: Global,

@@ -29,7 +29,8 @@ fn poll(rt: &impl Abort) -> Fact {
     })
 }
 
-/// Returns the record of a device that the store already has.
+/// Returns the record of the device `inv`, which the store of each test that uses this record
+/// already has.
 pub(crate) fn known_device(rt: &impl Abort) -> Fact {
     Fact::Device(Device {
         name: Name::new(b"inv").expect(rt, "no name"),
@@ -50,7 +51,8 @@ fn is_booked<S: Alter>(
     book_facts(alloc, conn, facts).is_ok()
 }
 
-/// The number of rows in some tables, which refused records must not change.
+/// Tables of the test's database with their numbers of rows. These numbers must be the same before
+/// and after the store refuses records.
 static COUNTS: [(&str, i64); 4] = [
     ("devices", 1),
     ("polls", 2),

@@ -22,7 +22,8 @@ INSERT INTO outcomes VALUES (1, 1900, 1, 0);
 INSERT INTO holds VALUES (1, 'm1', 1, 1900, 5100, 1, 2);
 INSERT INTO replies VALUES ('desk', 7, x'766f6964', 'void', 4000)";
 
-/// Creates a store in an empty database, and inserts the rows of `ROWS`.
+/// Creates a store in an empty database, and inserts the rows of `ROWS`, an SQL text with example
+/// rows for each table.
 pub(crate) fn strict<S: Alter + Drop>(
     rt: &impl Abort,
     alloc: Global,

@@ -1,8 +1,8 @@
 //! Tests the function that writes lines to an output without waiting until a reader has read them.
 use office_running::write_without_waiting;
 
-// Checks that lines are written completely even if the function does not wait until a reader has
-// read them.
+// Checks that `write_without_waiting` writes lines completely, although it does not wait until a
+// reader has read them.
 #[test]
 fn what_nobody_waits_for_is_written_whole(rt: HostRuntime) {
     let mut written = Vec::new(rt.alloc());

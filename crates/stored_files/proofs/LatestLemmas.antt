@@ -1,5 +1,5 @@
--- The lemma on the latest timestamp of the records in a database file, which is read through a
--- store that was opened from the file.
+-- Lemmas on the latest timestamp that a store returns, if the store was opened from a database
+-- file. It is the latest timestamp of the file's records.
 use Rattle.std.proofs.Common.{◌≡◌, ℕ, List, Result, Ok, Err, IfOk, Option, subst}
 use Rattle.std.specs.Borrow.{Bor}
 use Rattle.sqlite.specs.Store.{Ghosts}
@@ -33,8 +33,9 @@ module _ {S : Type 0} (g : Ghosts S) where
   latest_in_file old its facts books (Ok latest) clean holds it = latest_found old its facts books latest clean holds it
   latest_in_file old its facts books (Err why) clean holds it = tt
 
-  -- If a decision was made by the latest timestamp of the file's records, and by the file's time
-  -- zone, then `DecidesCourse` is true of the decision.
+  -- Suppose that `run --carry` decided, by the file's latest timestamp and time zone, whether to
+  -- stay in the file or begin a new one. Then the decision satisfies `DecidesCourse`, the contract
+  -- of this decision.
   pub course_decided : (old mid : Held S) (zone reported : List ℕ) (its : Zone) (by : Rollover) (led : Option (Bor (List ℕ))) (facts : List Fact) (latest now : ℕ) (course : Course)
       → (HasCleanDisk (state g mid) → HasCleanDisk (state g old)) → (HasCleanDisk (state g mid) → reported ≡ zone) → HasRule reported its
       → HasLatest g mid facts latest → IsCourse its by led latest now course → DecidesCourse g old zone by led facts now course

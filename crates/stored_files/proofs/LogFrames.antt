@@ -1,4 +1,5 @@
--- Lemmas on the offsets and checksums of the frames in SQLite's write-ahead log.
+-- Lemmas on the frames in SQLite's write-ahead log: the next frame's offset is one frame length
+-- greater, and each frame's checksum continues that of the frame before it.
 use Rattle.std.proofs.Common.{◌≡◌, ◌≢◌, ◌⊎◌, ℕ, zero, suc, ◌+◌, ◌-◌, ◌*◌, ◌/◌, ◌≤◌, ◌<◌, List, [], ◌∷◌, length, sym, refl, ◌∙◌, ap, inl, inr, arith, add-one, div-mul-le_self, le-div_iff_mul-le, le-mul_of_pos_right, mul-le-mul_right}
 use Rattle.std.proofs.lemmas.List.{nil_from_length}
 use Rattle.sqlite_disk.specs.Disk.{Holds, Torn}
@@ -99,8 +100,8 @@ low_if_fits page_size len j within =
     let some = (le-div_iff_mul-le (omega arith)).1 all in
     omega (arith, some)
 
--- If SQLite's recovery can't read a write-ahead log for some reason, then the contract of
--- `check_log` allows the log to be rejected for this reason.
+-- If SQLite's recovery can't read a write-ahead log for some reason, then the contract of the
+-- function `check_log` allows that function to reject the log for this reason.
 pub unread_causes : (page_size : ℕ) (log : List ℕ) (fault : LogFault) → IsUnread page_size log fault
     → IsCause page_size log fault
 unread_causes page_size log Header unread = absurd unread

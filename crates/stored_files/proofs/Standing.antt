@@ -1,4 +1,5 @@
--- Lemmas on stores whose database has the records of a history of accepted events.
+-- The lemma that a store agrees with (has the records of) a history of accepted events, if its
+-- database has exactly the records of these events, also after a crash.
 use Rattle.std.proofs.Common.{ℕ, zero, suc, List, [], ◌∷◌, inl, refl, arith}
 use Rattle.std.specs.Prelude.{All}
 use Rattle.sqlite.specs.Store.{Ghosts}

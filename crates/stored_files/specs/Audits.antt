@@ -13,9 +13,9 @@ use Rattle.sqlite.specs.declared.error.Error.{Error}
 use Rattle.sqlite.specs.declared.error.Error.TheVariants.{SqliteFailure}
 use Rattle.sqlite.specs.declared.error.ErrorCode.TheVariants.{OutOfMemory}
 
--- States that the fault of an audit is about the file's tables: they are not those of `sunreg`, are
--- those of an earlier version, or have another schema. If the schema differs, the fault names the
--- first table that differs, if there is one.
+-- States that the fault of an audit is about the file's tables: foreign tables, tables of an
+-- earlier version, or a schema that is not the program's. If the schema differs, the fault names
+-- the first table that differs, if there is one.
 abbrev pub IsOfTables : Schema → AuditFault → Type 0
 IsOfTables schema NotOurs = Unit {0}
 IsOfTables schema Earlier = Unit {0}

@@ -1,5 +1,5 @@
--- Defines what the command `run --carry` does with its current database file: whether it stays in
--- the file, or continues all meters in the file of a new month or year.
+-- Defines what the command `run --carry` does with its current database file: whether the command
+-- keeps using the file, or continues all meters in the file of a new month or year.
 use Rattle.std.specs.Prelude.{ℕ, List, Option}
 use Rattle.std.specs.Borrow.{Bor}
 use Rattle.sqlite.specs.Store.{Ghosts}
@@ -16,9 +16,9 @@ use Rattle.run_schedule.specs.declared.periods.courses.Rollover.{Rollover}
 use Rattle.stored_files.specs.BooksFound.{ledger_beneath}
 
 module _ {S : Type 0} (g : Ghosts S) where
-  -- States that `course` is the decision at the time `now` for a database file with the records
-  -- `facts` and the time zone `zone`. `led` is the period in the name of the file. The statement
-  -- assumes that the disk returned what was written to it.
+  -- States that `course` is what `run --carry` does at the time `now` with a database file that has
+  -- the records `facts` and the time zone `zone`. `led` is the period in the name of the file. The
+  -- statement assumes that the disk returned what was written to it.
   pub record DecidesCourse (old : Held S) (zone : List ℕ) (by : Rollover)
       (led : Option (Bor (List ℕ))) (facts : List Fact) (now : ℕ) (course : Course) : Type 0 where
     pub asked : SqlBooks S g

@@ -12,6 +12,7 @@ ghost use Rattle.stored_files.specs.Audits.{IsOfTables, fault_of};
 ghost use Rattle.table_audit.specs.FileMark.{ReportsMark};
 ghost use Rattle.table_audit.specs.Looking.{HoldsRows, HoldsTables, OnlyLooks};
 ghost use Rattle.table_audit.specs.Polls.{ReportsTables};
+ghost use Rattle.table_audit.specs.JsonTexts.{with_json};
 ghost use Rattle.table_audit.specs.Texts.{with_findings};
 ghost use Rattle.table_seals.specs.Filing.{FilesMeters, HasUnfiledMeter};
 ghost use Rattle.table_seals.specs.Joins.{after_next, joins_after, known_as, known_of};
@@ -23,7 +24,7 @@ use std::io::Write;
 use store_tables::{Layout, RowFault, layout_of};
 use sun_points::Sink;
 use table_audit::{
-    Findings, SchemaFault, audit_tables, check_definitions, is_marked, write_findings,
+    Findings, SchemaFault, audit_tables, check_definitions, is_marked, write_findings, write_json,
 };
 use table_seals::{FiledMeter, FiledOffice, Joining, append_joins, filed_meters};
 
@@ -34,15 +35,16 @@ pub enum AuditFault {
     NotOurs,
     /// The database has the tables of an earlier version of the program.
     Earlier,
-    /// The tables, indexes, views or triggers of the database have another definition than the
-    /// program's.
+    /// The tables, indexes, views or triggers of the database have other definitions than those
+    /// that the program creates.
     Schema(SchemaFault),
-    /// The table `meta` does not have one row with number 1, the present version and a time zone.
+    /// The table `meta` does not have exactly one row, with the id 1, the program's present version
+    /// and a time zone.
     Mark,
-    /// No seal (digests of the records) can be computed: a row has an invalid value, or a name that
-    /// is not a word.
+    /// No seal (digests of the records) can be computed. A row has a value out of its range, or a
+    /// name that a seal can't contain.
     Unsealable,
-    /// A name or the time zone is not valid text.
+    /// A name in the audited database, or its time zone, is not valid text.
     NoText,
     /// The file that was given as a seal (digests of a database's records) does not have the text
     /// of a seal.
@@ -117,8 +119,8 @@ pub fn check_mark<S: Alter>(connection: &mut Connection<S>) -> Result<(), AuditF
 }
 
 /// Audits the metering records in a database. Checks that each meter's rows follow from a history
-/// of entries that the rules accept, and that the polls are complete and in order. Writes nothing
-/// to the database.
+/// of entries that the rules for meter entries accept. Checks that no poll number is missing and no
+/// outcome is earlier than its poll. Writes nothing to the database.
 pub fn audit_stored<S: Alter>(
     alloc: Global,
     connection: &mut Connection<S>,
@@ -140,6 +142,41 @@ pub fn audit_stored<S: Alter>(
     }
 }
 
+/// Writes the text of an audit's result to `output`. Returns whether the audit found no
+/// discrepancies.
+fn write_verdict<W: Write>(
+    findings: &Findings,
+    text: &[u8],
+    output: &mut W,
+) -> Result<bool, AuditFault>
+    ensures fine { IfOk result (λ fine. IsTrue fine ↔ (findings.now.first.items ≡ [])) }
+    ensures reported { OnOk result
+        (Appends (W.contents output.old) (W.contents output.new) text.now) }
+{
+    match output.take_text(text) {
+        Ok(()) => Ok(findings.is_fine()),
+        Err(_) => Err(AuditFault::Output),
+    }
+}
+
+/// Writes the result of an audit to `output` as JSON, one object a line. Returns whether the audit
+/// found no discrepancies.
+pub fn write_json_audit<W: Write>(
+    alloc: Global,
+    findings: &Findings,
+    output: &mut W,
+) -> Result<bool, AuditFault>
+    ensures fine { IfOk result (λ fine. IsTrue fine ↔ (findings.now.first.items ≡ [])) }
+    ensures reported { OnOk result (Appends (W.contents output.old) (W.contents output.new)
+        (with_json [] findings.now)) }
+{
+    let mut text = Vec::new(alloc);
+    if write_json(&mut text, findings).is_err() {
+        return Err(AuditFault::Memory);
+    }
+    write_verdict(findings, text.as_slice(), output)
+}
+
 /// Writes the result of an audit to `output`. Returns whether the audit found no discrepancies.
 pub fn write_audit<W: Write>(
     alloc: Global,
@@ -154,10 +191,7 @@ pub fn write_audit<W: Write>(
     if write_findings(&mut text, findings).is_err() {
         return Err(AuditFault::Memory);
     }
-    match output.take_text(text.as_slice()) {
-        Ok(()) => Ok(findings.is_fine()),
-        Err(_) => Err(AuditFault::Output),
-    }
+    write_verdict(findings, text.as_slice(), output)
 }
 
 /// Returns the meters in a database, to check that the next database file continues their counts.
@@ -219,8 +253,8 @@ pub fn hold_to_earlier<'a>(
     }
 }
 
-/// Writes the differences between successive database files. Returns true if there are no
-/// differences.
+/// Writes the differences by which successive database files do not continue each other. Returns
+/// true if there are no differences.
 pub fn write_joins<W: Write>(
     alloc: Global,
     lines: &[Vec<u8>],

@@ -17,6 +17,7 @@ mod seals;
 
 pub use audits::{
     AuditFault, audit_stored, check_mark, hold_to_earlier, meters_stored, write_audit, write_joins,
+    write_json_audit,
 };
 pub use backups::{CopyFault, recovered_file, whole_file, whole_files};
 pub use carries::{CarryEnd, carry_stored, read_zone_text};

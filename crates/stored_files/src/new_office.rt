@@ -8,8 +8,8 @@ use office_store::{OpenFault, SqlBooks};
 use sqlite::{Alter, Connection};
 use std::alloc::Global;
 
-/// Creates the tables for metering records in an empty database, by `SqlBooks::create`. `zone` is
-/// the time zone in which days begin and end.
+/// Creates the tables for metering records in an empty database, with the function
+/// `SqlBooks::create`. `zone` is the time zone in which days begin and end.
 pub fn create_stored<S: Alter + Drop>(
     alloc: Global,
     connection: Connection<S>,

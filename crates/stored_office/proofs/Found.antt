@@ -1,4 +1,5 @@
--- Lemmas about tasks that run over a store with the records of given accepted events.
+-- Lemma: when a task begins, its database has the records of one history of accepted events. The
+-- store that the task opens in the database has exactly these records.
 use Rattle.std.proofs.Common.{◌≡◌, ℕ, List, sym, subst}
 use Rattle.sqlite.specs.Store.{Ghosts}
 use Rattle.office_books.specs.History.{History, facts_of}
@@ -13,8 +14,8 @@ use Rattle.stored_files.proofs.Standing.{stands_alone}
 use Rattle.stored_files.specs.BooksFound.{ledger_beneath}
 use Rattle.stored_office.specs.OverBooks.{OverBooks, ledger_in}
 
--- If two models of a store have the same records, then a history of events that agrees with one
--- also agrees with the other.
+-- Suppose that two models of a store have the same records. If the first model has exactly the
+-- records of a history of events, then the second model has exactly these records too.
 stands_so : (before after : Ledger) (past : History) → StandsAs before after → BooksStand before past → BooksStand after past
 stands_so before after past meant stand = record {
   is_past = stand.is_past;

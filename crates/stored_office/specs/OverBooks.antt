@@ -18,8 +18,9 @@ module _ {S : Type 0} (g : Ghosts S) where
   -- States that a task ran over the store in a database. Before the task, the store had exactly the
   -- records of the accepted events `past`, and all of them would have survived a crash.
   --
-  -- If the task used no wrong result of the database, `Does` relates the store before the task to
-  -- the store after it. Otherwise nothing is stated about the store after the task.
+  -- `Does` is a relation between the store before the task and the store after it. If the database
+  -- returned no wrong result that the task used, `Does` holds; otherwise nothing is stated about
+  -- the store after the task.
   pub record OverBooks (past : History)
       (Does : (found left : CachedBooks (SqlBooks S g)) → Type 0) : Type 0 where
     pub zone : List ℕ

@@ -1,5 +1,6 @@
 //! Functions that run an office (the part of the program that checks and records events) over a
-//! store in a database. The contracts of these functions are the main theorem about an office.
+//! store in a database. Their contracts are the main theorem about an office: the store has the
+//! records of all accepted events.
 
 mod runs;
 

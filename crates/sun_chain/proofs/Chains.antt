@@ -1,4 +1,5 @@
--- Lemmas about consecutive SunSpec models and the fault at the address after them.
+-- Lemmas about consecutive SunSpec models: a valid model extends the list, and a fault at the
+-- address after a list excludes a longer list.
 use Rattle.std.proofs.Common.{◌≡◌, ℕ, ◌+◌, ◌<◌, ◌≤◌, Bool, true, false, if◌then◌else◌, nat_le, nat_lt, ◌==◌, Option, Some, None, List, [], ◌∷◌, ◌++◌, length, arith, length-append, refl, sym, ◌∙◌, add-zero, zero-add, add-suc, add-one, suc-add}
 use Rattle.std.specs.List.{All}
 use Rattle.std.proofs.lemmas.List.Elements.{All-cons}
@@ -10,14 +11,17 @@ use Rattle.sun_chain.specs.declared.model.Model.{Model}
 use Rattle.sun_chain.specs.declared.fault.ChainFault.{ChainFault}
 use Rattle.sun_chain.specs.declared.fault.ChainFault.TheVariants.{NoMark, Unreadable, PastEnd, TooMany, Memory}
 
--- If a valid model begins at the address after a list of consecutive SunSpec models, then the list
--- with this model appended is also consecutive.
+-- If a valid model begins after a list of consecutive SunSpec models, then the list with this model
+-- appended is also consecutive. A model is valid if its ID and length were read, and it ends within
+-- 65536 addresses.
 pub follow_more : (word : Words) (from : ℕ) (models : List Model) (model : Model) → Follow word from models model.address → Stands word model →
     Follow word from (models ++ model ∷ []) (next_after model)
 follow_more word from [] model follow stands = (sym follow, stands, refl)
 follow_more word from (first ∷ models) model follow stands = (follow.0, follow.1, follow_more word (next_after first) models model follow.2 stands)
 
--- If a valid SunSpec model begins at an address, there is no fault at that address.
+-- If a valid SunSpec model begins at an address after fewer than 64 models, there is no fault at
+-- that address. A model is valid if its ID and length were read, and it ends within 65536
+-- addresses.
 pub no_lack : (word : Words) (count : ℕ) (model : Model) → Stands word model → count < 64 → first_lack word count model.address ≡ None
 no_lack word count model stands few =
     let in_space : nat_lt 65535 model.address ≡ false = le-ltb 65535 model.address (omega (arith, stands.inside)) in
@@ -37,8 +41,8 @@ same_next word first other same stands other_stands =
     let lengths : first.length ≡ other.length = some_same first.length other.length (word (first.address + 1)) stands.length length_too in
     omega (arith, same, lengths)
 
--- If a fault follows a list of valid models, then no list of valid models from the same address is
--- longer.
+-- If a fault is at the address after a list of consecutive models, then no list of consecutive
+-- models from the same first address is longer.
 pub longest_from : (word : Words) (from before : ℕ) (models others : List Model) (next other_next : ℕ) (fault : ChainFault) →
     Follow word from models next → Follow word from others other_next → before + length others ≤ 64 →
     first_lack word (before + length models) next ≡ Some fault → length others ≤ length models
@@ -107,8 +111,9 @@ pub fails_after : (word : Words) (base : ℕ) (models : List Model) (count next 
     count ≡ length models → first_lack word count next ≡ Some fault → Fails word fault
 fails_after word base models count next fault lawful counted lack = fails_by word base models next fault lawful (rw counted at lack)
 
--- If a valid model follows a valid list of fewer than 64 models, then the list with this model
--- appended is also valid.
+-- If a valid model follows a list of fewer than 64 models that satisfies `IsLawful`, then the list
+-- with this model appended also satisfies `IsLawful`. `IsLawful` means: at most 64 models follow
+-- the `SunS` mark without gaps.
 pub lawful_more : (word : Words) (base : ℕ) (models : List Model) (next : ℕ) (model : Model) → IsLawful word base models next →
     model.address ≡ next → Stands word model → length models < 64 → IsLawful word base (models ++ model ∷ []) (next_after model)
 lawful_more word base models next model lawful at_next stands few = record {

@@ -13,7 +13,7 @@ use Rattle.sun_chain.specs.declared.fault.ChainFault.TheVariants.{PastEnd, TooMa
 abbrev everywhere : ℕ → Words
 everywhere word address = Some word
 
--- A chain may have 64 models, and a 65th model is a fault.
+-- A chain of SunSpec models may have 64 models, and a 65th model is a fault.
 
 room_for_a_64th : first_lack (everywhere 66) 63 40002 ≡ None
 room_for_a_64th = refl
@@ -24,7 +24,7 @@ no_room_for_a_65th = refl
 an_end_after_64 : first_lack (everywhere 0xFFFF) 64 40002 ≡ None
 an_end_after_64 = refl
 
--- A chain may end at address 65535 and not after it.
+-- A chain of SunSpec models may end at address 65535 and not after it.
 
 an_end_at_the_last_address : first_lack (everywhere 0xFFFF) 0 65535 ≡ None
 an_end_at_the_last_address = refl

@@ -1,5 +1,5 @@
--- Proves that a memory image (the words read from a device) has at most one chain and at most one
--- fault.
+-- Proves that a memory image (the words read from a device) has at most one chain of SunSpec models
+-- and at most one fault.
 use Rattle.std.proofs.Common.{◌≡◌, ◌≢◌, ℕ, ◌+◌, ◌≤◌, nat_lt, false, Option, Some, None, List, [], ◌∷◌, length, arith, refl, sym, ◌∙◌, ap}
 use Rattle.std.proofs.lemmas.Bool.{le-ltb}
 use Rattle.sun_chain.specs.Image.{Words}
@@ -28,8 +28,8 @@ same_model word first other same stands other_stands =
     ∙ ap (λ (i : ℕ). model_of other.address i first.length) ids
     ∙ ap (λ (l : ℕ). model_of other.address other.id l) lengths
 
--- If two lists of consecutive models begin at the same address and have the same length, they are
--- equal.
+-- If two lists of consecutive SunSpec models in the same words begin at the same address and have
+-- the same length, then they are equal.
 same_models : (word : Words) (from : ℕ) (models others : List Model) (next other_next : ℕ) →
     Follow word from models next → Follow word from others other_next → length models ≡ length others → (models ≡ others) × (next ≡ other_next)
 same_models word from [] [] next other_next follow other_follow as_many = (refl, sym follow ∙ other_follow)

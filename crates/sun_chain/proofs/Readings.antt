@@ -1,4 +1,5 @@
--- Lemmas about consecutive words of a memory image (the words read from a device).
+-- Lemmas about the function `words_in`, which reads consecutive words of a memory image (the words
+-- read from a device). It returns the words, or `None` if one of them was not read.
 use Rattle.std.proofs.Common.{◌≡◌, ℕ, zero, suc, ◌+◌, ◌<◌, ◌≤◌, Bool, true, false, ◌&&◌, Option, Some, None, List, [], ◌∷◌, length, get_or, take, drop, arith, refl, sym, ◌∙◌, ap, add-one, drop-cons, option_map, option_and_then, true≢false}
 use Rattle.std.proofs.lemmas.List.{get_or_past}
 use Rattle.std.specs.List.{list_all}
@@ -64,7 +65,9 @@ words_in-unread read words start (suc count) fits some =
     ] in
     tests (get_or read start false) refl
 
--- If a range of addresses extends past the last word of the image, `words_in` returns `None`.
+-- A memory image has the register words that were read from a device. If a range of addresses
+-- extends past the image's last word, `words_in`, which returns the words of a range, returns
+-- `None`.
 pub words_in-past : (read : List Bool) (words : List ℕ) (start count : ℕ) → 0 < count → length read < start + count →
     words_in (cell read words) start count ≡ None
 words_in-past read words start zero many past = absurd (omega arith)

@@ -1,4 +1,5 @@
--- Lemmas about listing the points of a SunSpec model, one row of the model's table after another.
+-- Lemmas that listing one more row of a SunSpec model's table appends the row's point to the listed
+-- points, if the point was read.
 use Rattle.std.proofs.Common.{◌≡◌, ℕ, ◌+◌, ◌<◌, Option, Some, None, List, [], ◌∷◌, ◌++◌, length, get_or, take, map, filter_map, option_map, option_to_list, refl, sym, ◌∙◌, ap}
 use Rattle.std.proofs.lemmas.List.{take_more, map-append}
 use Rattle.std.proofs.lemmas.List.Elements.{filter_map-append}

@@ -1,4 +1,5 @@
--- Proves that every memory image (the words read from a device) has a chain or a fault.
+-- Proves that every memory image (the words read from a device) has a complete chain of SunSpec
+-- models or a fault of the chain.
 use Rattle.std.proofs.Common.{◌≡◌, ◌≢◌, ℕ, ◌⊎◌, zero, suc, ◌+◌, ◌<◌, ◌≤◌, ◌==◌, Bool, true, false, nat_le, nat_lt, Option, Some, None, List, [], ◌∷◌, ◌++◌, length, arith, refl, inl, inr, length-append}
 use Rattle.std.proofs.lemmas.Bool.{eqb-true, eqb-false, leb-false, ltb-false}
 use Rattle.sun_chain.specs.Image.{Words}
@@ -10,15 +11,16 @@ use Rattle.sun_chain.specs.declared.fault.ChainFault.{ChainFault}
 use Rattle.sun_chain.specs.declared.fault.ChainFault.TheVariants.{NoMark, Unreadable, PastEnd, TooMany, Memory}
 use Rattle.sun_chain.proofs.Chains.{lawful_more, fails_by}
 
--- The result of reading at an address after `count` models: the end of the chain, one more model,
--- or a fault.
+-- The result of reading at an address after `count` SunSpec models: the end of the chain, one more
+-- model, or a fault.
 data Next (word : Words) (count address : ℕ) : Type 0 where
   AtEnd : word address ≡ Some 0xFFFF → address ≤ 65535 → Next word count address
   AtModel : (model : Model) → model.address ≡ address → Stands word model → count < 64 → Next word count address
   Lacking : (fault : ChainFault) → fault ≢ Memory → first_lack word count address ≡ Some fault → Next word count address
 
--- If the ID and the length of a model were read, then either a valid model begins at the address,
--- or the fault `PastEnd` occurs: the model ends past the last address.
+-- If the ID and the length of a model were read, then one of two cases holds. Either a model that
+-- ends at or before address 65535 begins at the address, or the fault `PastEnd` occurs: the model
+-- ends past this address.
 after_length : (word : Words) (count address id size : ℕ) → nat_lt 65535 address ≡ false → word address ≡ Some id → (id == 0xFFFF) ≡ false →
     nat_le 64 count ≡ false → nat_lt 65535 (address + 1) ≡ false → word (address + 1) ≡ Some size →
     (past : Bool) → nat_lt 65536 (address + 2 + size) ≡ past → Next word count address
@@ -70,8 +72,8 @@ at_address : (word : Words) (count address : ℕ) → (past : Bool) → nat_lt 6
 at_address word count address true past = Lacking PastEnd (λ e. cc) (rw past refl)
 at_address word count address false past = in_words word count address past (word address) refl
 
--- If a valid list of models follows the `SunS` mark, the words contain a complete chain or have a
--- fault. The induction adds models to the list, at most 64.
+-- If a list of at most 64 models follows the `SunS` mark without gaps, the words read from a device
+-- contain a complete chain or have a fault. The induction adds models to the list, at most 64.
 found_from : (more : ℕ) (word : Words) (base : ℕ) (models : List Model) (next : ℕ) → IsLawful word base models next → 65 ≤ more + length models →
     HasChain word ⊎ HasFault word
 found_from zero word base models next lawful many =

@@ -1,4 +1,5 @@
--- Lemmas about lists with some elements overwritten or with elements appended.
+-- Lemmas: after elements of a list were overwritten or appended, a lookup inside the changed part
+-- returns the new element. Any other lookup returns the same element as before.
 use Rattle.std.proofs.Common.{◌≡◌, ℕ, ◌+◌, ◌-◌, ◌<◌, ◌≤◌, Bool, true, false, nat_le, nat_lt, if◌then◌else◌, Option, Some, None, List, ◌++◌, length, get_or, take, drop, replicate, arith, refl, ◌∙◌, sym, ap, ⊎_elim}
 use Rattle.std.proofs.lemmas.List.{get_or_append_left, get_or-append_right, get_or_past, get_or-replicate, length-replicate}
 use Rattle.std.proofs.lemmas.Bool.{cases_lt, lt-leb, le-ltb, le-leb, lt-ltb}

@@ -1,4 +1,5 @@
--- Proves that the model tables are valid, so that the points of a model are in order of address.
+-- Proves that each model table is valid (`is_lawful_table`: its points are in order of offset, do
+-- not overlap and lie inside the model). The points of a model are therefore in order of address.
 use Rattle.std.proofs.Common.{◌≡◌, ℕ, ◌+◌, ◌≤◌, Bool, true, false, ◌&&◌, ◌==◌, nat_le, if◌then◌else◌, Option, Some, None, List, [], ◌∷◌, filter_map, option_map, arith, refl, leb-true}
 use Rattle.std.specs.List.{cons_option}
 use Rattle.sun_points.specs.PointType.{registers_of}
@@ -23,16 +24,16 @@ tables_are_lawful id = tests (id == 1) (nat_le 101 id && nat_le id 103) (nat_le 
     tests false false true = refl
     tests false false false = refl
 
--- If points of a model are in order after an address, they are also in order after each lower
--- address.
+-- If points of a model are in order of address and begin at or after an address, they also begin at
+-- or after each lower address.
 in_order_from_less : (from later : ℕ) (points : List Named) → from ≤ later → StandInOrder later points → StandInOrder from points
 in_order_from_less from later [] below stand = tt
 in_order_from_less from later (point ∷ points) below stand =
     let first : later ≤ point.address = stand.0 in
     (omega (arith, first), stand.1)
 
--- Points of a model remain in order when the point of the preceding row of the table (if it was
--- read) is added before them.
+-- Suppose that a list of a model's points is in order of address. If the point of the preceding row
+-- of the model's table was read, putting it before the list keeps the order.
 one_before : (model : Model) (from : ℕ) (row : Row) (scale : PointScale) (found : Option Value) (following : List Named) → from ≤ row.offset →
     StandInOrder (model.address + end_of_row row) following →
     StandInOrder (model.address + from)

@@ -25,7 +25,7 @@ pub record Stands (word : Words) (model : Model) : Type 0 where
   pub length : word (model.address + 1) ≡ Some model.length
   pub inside : model.address + 2 + model.length ≤ 65536
 
--- The address after a model's last register.
+-- The address after the last register of a SunSpec model.
 abbrev pub next_after : Model → ℕ
 next_after model = model.address + 2 + model.length
 
@@ -50,8 +50,8 @@ pub record IsLawful (word : Words) (base : ℕ) (models : List Model) (next : �
   pub follow : Follow word (base + 2) models next
   pub few : length models ≤ 64
 
--- A complete chain: the models after the mark at `base`, and the address `end` of the ID 0xFFFF
--- after them.
+-- A complete chain of SunSpec models: the models after the `SunS` mark at `base`, and the address
+-- `end` of the ID 0xFFFF after them.
 pub record IsChain (word : Words) (base : ℕ) (models : List Model) (end : ℕ) : Type 0 where
   pub lawful : IsLawful word base models end
   pub ends : word end ≡ Some 0xFFFF
@@ -65,7 +65,7 @@ words_of chain = word_in chain.image.now
 abbrev pub base_of : Chain → ℕ
 base_of chain = chain.base
 
--- The models of the chain, in order of address.
+-- The models of a device's SunSpec model chain, in order of address.
 abbrev pub models_of : Chain → List Model
 models_of chain = chain.models.items
 

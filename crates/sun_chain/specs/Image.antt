@@ -8,7 +8,7 @@ use Rattle.sun_chain.specs.declared.image.Image.{Image}
 abbrev pub Words : Type 0
 Words = ℕ → Option ℕ
 
--- The words of an `Image`, by address.
+-- The words of an `Image` (a memory image of a device), by address.
 abbrev pub word_in : Image → Words
 word_in image address =
     if slice_index_or image.read.items address false
@@ -22,7 +22,8 @@ add_words word address words at =
     if nat_le address at && nat_lt at (address + length words)
     then Some (slice_index words (at - address)) else word at
 
--- The given number of words from an address on, or `None` unless all of them were read.
+-- The given number of words of a memory image from an address on, or `None` unless all of them were
+-- read from the device.
 unfoldable pub words_in : Words → ℕ → ℕ → Option (List ℕ)
 words_in word address zero = Some []
 words_in word address (suc count) =

@@ -38,7 +38,7 @@ abbrev pub point_scale : Option ℕ → PointScale
 point_scale None = Unscaled
 point_scale (Some word) = scale_said word
 
--- The value of a `NamedPoint`, without the memory that it borrows.
+-- A `NamedPoint` (a point of a SunSpec model) as a value that borrows no memory.
 abbrev pub seen : NamedPoint → Named
 seen point = record {
   name = point.name.now;

@@ -1,4 +1,4 @@
--- Defines a list with some of its items replaced.
+-- Defines a list in which another list replaces a number of consecutive items.
 use Rattle.std.specs.Prelude.{ℕ, ◌++◌, List, take, drop}
 
 -- The list `items` in which the list `others` replaces `count` items from index `start`.

@@ -12,8 +12,8 @@ use Rattle.sun_chain.specs.Points.{Named}
 abbrev pub end_of_row : Row → ℕ
 end_of_row row = row.offset + registers_of row.ty
 
--- True if the points are in order of offset, do not overlap, and begin at or after the given
--- offset.
+-- True if the points of a model table are in order of offset, do not overlap, and begin at or after
+-- the given offset.
 abbrev pub ascends_from : ℕ → List Row → Bool
 ascends_from from [] = true
 ascends_from from (row ∷ rows) = nat_le from row.offset && ascends_from (end_of_row row) rows
@@ -44,7 +44,8 @@ has_its_scale rows row =
     unwrap_or (option_map (λ offset. list_any (is_scale_point offset) rows) row.scale) true
 
 -- True if a model's table is valid for models of the given length. Points begin after the ID and
--- length registers, are in order and lie inside the model, and their scale points are in the table.
+-- length registers, are in order of offset and lie inside the model, and their scale points are in
+-- the table.
 abbrev pub is_lawful_table : ℕ → List Row → Bool
 is_lawful_table length rows =
     ascends_from 2 rows && list_all (lies_inside length) rows && list_all (has_its_scale rows) rows
@@ -58,7 +59,9 @@ length_of_known id =
     else if nat_le 201 id && nat_le id 204 then 105
     else 0
 
--- The statement that the table of each model ID is valid.
+-- The statement that, for each SunSpec model ID, the table of the model's points is valid.
+-- `is_lawful_table` defines this: points in order of offset and inside the model, with their scale
+-- points in the table.
 abbrev pub TablesAreLawful : Type 0
 TablesAreLawful = (id : ℕ) → IsTrue (is_lawful_table (length_of_known id) (table_of id))
 

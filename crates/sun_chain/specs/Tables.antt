@@ -166,7 +166,7 @@ table_of id =
     else if nat_le 201 id && nat_le id 204 then meter_table
     else []
 
--- The SunSpec point type of an `EntryType` in the program's tables.
+-- The SunSpec point type that an `EntryType` (a type in the program's model tables) represents.
 abbrev pub type_of : EntryType → PointType
 type_of entry.Int16 = Int16
 type_of entry.Uint16 = Uint16
@@ -177,7 +177,8 @@ type_of entry.Sunssf = Sunssf
 type_of entry.String8 = Text 8
 type_of entry.String16 = Text 16
 
--- The row of the contracts' table that an entry of the program's table of points represents.
+-- The row of a model's table, as the contracts use it, with the name, offset, type and scale of an
+-- entry of the program's table of points.
 abbrev pub row_of : Entry → Row
 row_of found = row found.name.now found.offset (type_of found.ty) found.scale
 

@@ -28,14 +28,14 @@ id_lack word count address (Some id) =
     else if nat_lt 65535 (address + 1) then Some PastEnd
     else length_lack address (word (address + 1))
 
--- The first fault at an address after the given number of models. `None` for a valid model or the
--- end of the chain.
+-- The first fault at an address after the given number of models. `None` if a model without such a
+-- fault begins there, or if the chain ends there.
 abbrev pub first_lack : Words → ℕ → ℕ → Option ChainFault
 first_lack word count address =
     if nat_lt 65535 address then Some PastEnd else id_lack word count address (word address)
 
--- True if the given fault is at the address after the longest valid list of models that follows the
--- `SunS` mark.
+-- True if the given fault is at the address after the longest list of models that follows the
+-- `SunS` mark without gaps and has at most 64 models.
 pub record Lacks (word : Words) (fault : ChainFault) : Type 0 where
   pub base : ℕ
   pub models : List Model

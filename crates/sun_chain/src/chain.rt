@@ -1,4 +1,4 @@
-//! The chain of SunSpec models in a device's memory image.
+//! The chain of SunSpec models in a device's memory image (the words read from the device).
 ghost use Rattle.std.specs.Prelude.{◌+◌, ◌≤◌, length};
 ghost use Rattle.std.specs.List.{All};
 

@@ -1,4 +1,4 @@
-//! Accessors of a chain: its base address, its models and its end.
+//! Accessors of a chain of SunSpec models: its base address, its models and its end.
 ghost use Rattle.std.specs.Prelude.{◌≡◌, ◌≤◌, length};
 ghost use Rattle.std.specs.List.{All};
 ghost use Rattle.sun_chain.specs.Chain.{base_of, end_of, models_of, next_after};
@@ -21,7 +21,7 @@ impl Chain<'_> {
         self.end
     }
 
-    /// Returns the models of the chain, in order of address.
+    /// Returns the models of the chain of SunSpec models, in order of address.
     pub fn models(&self) -> &[Model]
         ensures models { result.now ≡ models_of self.now }
         ensures few { length result.now ≤ 64 }

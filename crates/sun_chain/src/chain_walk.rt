@@ -17,7 +17,7 @@ const BASES: [u16; 3] = [40000, 50000, 0];
 /// The maximum number of models in a chain.
 const MOST_MODELS: usize = 64;
 
-/// The ID of the model that ends a chain.
+/// The ID of the end model, which has no points and ends a device's chain of SunSpec models.
 const END_ID: u16 = 0xFFFF;
 
 /// Finds the chain of models in a memory image (the words read from a device). The words `Su` and
@@ -63,8 +63,8 @@ fn is_marked_at(image: &Image, base: u16) -> bool
     image.word(base) == Some(0x5375) && image.word(base + 1) == Some(0x6E53)
 }
 
-// Returns the model that begins at an address after `count` models, or `None` at the end of the
-// chain. On error, returns the first fault at the address.
+// Returns the SunSpec model that begins at an address after `count` models, or `None` at the end of
+// the chain. On error, returns the first fault at the address.
 fn model_at(image: &Image, count: usize, address: u32) -> Result<Option<Model>, ChainFault>
     ensures stands { IfOk result (IsNext (word_in image.now) count address) }
     ensures lack { IfErr result

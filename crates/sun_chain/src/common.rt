@@ -8,8 +8,8 @@ use crate::chain::Chain;
 use crate::model::Model;
 use sun_points::{Point, PointType, Text, TextLength, read_point};
 
-/// The fields of a device's first common model. A text that is absent, outside the model or unread
-/// is empty.
+/// The fields of a device's first common model. A text is empty if the device does not implement it
+/// (its registers are 0), if it lies outside the model, or if its registers were not read.
 #[derive(Clone, Copy)]
 pub struct Common<'a> {
     pub manufacturer: Text<'a>,

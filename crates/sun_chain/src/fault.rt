@@ -10,13 +10,13 @@ use std::fmt::{Display, Formatter};
 /// The reason why a memory image (the words read from a device) refused a write of words.
 #[derive(Clone, Copy, Debug, PartialEq, Eq)]
 pub enum ImageFault {
-    /// The words to write would end past address 65535.
+    /// The words to write into a memory image would end past address 65535.
     PastEnd,
     Memory,
 }
 
 impl ImageFault {
-    /// Returns the numeric code of the fault. The codes begin at 1.
+    /// Returns the numeric code of a fault of a write into a memory image. The codes begin at 1.
     pub fn number(self) -> u8
         ensures { result ≡ image_fault_number self }
     {
@@ -43,18 +43,19 @@ impl Error for ImageFault {}
 pub enum ChainFault {
     /// No base address has the `SunS` mark.
     NoMark,
-    /// The search for the chain needs the word at this address, which was not read.
+    /// The search for the chain of SunSpec models needs the word at this address, which was not
+    /// read.
     Unreadable(u16),
     /// The chain continues past address 65535.
     PastEnd,
-    /// The chain has more than 64 models.
+    /// The device's chain of SunSpec models has more than 64 models.
     TooMany,
     Memory,
 }
 
 impl ChainFault {
-    /// Returns the numeric code that the command `chain` prints for the fault. The codes begin at
-    /// 1.
+    /// Returns the numeric code that the command `chain` prints if a device's chain of SunSpec
+    /// models can't be read. The codes begin at 1.
     pub fn number(self) -> u8
         ensures { result ≡ chain_fault_number self }
     {

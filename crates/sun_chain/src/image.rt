@@ -15,7 +15,7 @@ pub(crate) const ADDRESSES: u32 = 65536;
 #[derive(Drop)]
 pub struct Image {
     words: Vec<u16>,
-    // For each index of `words`, whether that word was read.
+    // For each index of `words`, whether that word was read from the device.
     read: Vec<bool>,
     ghost sized: { vec_len read ≤ vec_len words },
     ghost few: { vec_len read ≤ 65536 },
@@ -55,7 +55,7 @@ impl Image {
         Ok(())
     }
 
-    // Extends the image to cover all addresses below `end`.
+    // Extends the memory image (the words read from a device) to cover all addresses below `end`.
     fn make_room(&mut self, end: usize) -> Result<(), AllocError>
         requires { end ≤ 65536 }
         ensures room { OnOk result (end ≤ vec_len self.new.read) }
@@ -73,15 +73,16 @@ impl Image {
         mark_at(&mut self.read, start, words.len());
     }
 
-    /// Returns the word at the address, or `None` if the word was not read.
+    /// Returns the word of a memory image at the address, or `None` if the word was not read from
+    /// the device.
     pub fn word(&self, address: u16) -> Option<u16>
         ensures { result ≡ word_in self.now address }
     {
         self.word_at(u32::from(address))
     }
 
-    /// Returns the word at an address, or `None` if the word was not read. Addresses past 65535
-    /// have no word.
+    /// Returns the word of a memory image at an address, or `None` if the word was not read from
+    /// the device. Addresses past 65535 have no word.
     pub(crate) fn word_at(&self, address: u32) -> Option<u16>
         ensures { result ≡ word_in self.now address }
     {
@@ -91,7 +92,8 @@ impl Image {
         }
     }
 
-    /// Returns the `count` words from `address`, or `None` unless all of them were read.
+    /// Returns the `count` words of a memory image from `address`, or `None` unless all of them
+    /// were read from the device.
     pub(crate) fn words_at(&self, address: u32, count: u16) -> Option<&[u16]>
         requires { 1 ≤ count }
         ensures words { option_map (λ words. words.now) result

@@ -1,9 +1,10 @@
-//! Theorems about the model tables, and about the chains of all memory images.
+//! Theorems: the tables of SunSpec models are valid, and each memory image (the words read from a
+//! device) has exactly one complete chain of models or exactly one fault.
 ghost use Rattle.sun_chain.specs.Laws.{ChainHasNoFault, ChainIsOne, ChainOrFault, FaultIsOne};
 ghost use Rattle.sun_chain.specs.TableRules.{TablesAreLawful};
 
-/// Theorem: the table of each known model is valid. Its points are in order and inside the model,
-/// and each scale point exists.
+/// Theorem: the table of each known model is valid. Its points are in order of offset and inside
+/// the model, and each scale point exists.
 pub fn tables_are_lawful()
     ensures { TablesAreLawful }
 {}

@@ -1,4 +1,5 @@
--- Lemmas about zeros appended to a decimal number.
+-- Lemmas that appending zeros to the decimal text of a number multiplies the number by a power of
+-- ten.
 use Rattle.std.proofs.Common.{◌≡◌, ℕ, zero, suc, ◌+◌, ◌*◌, ◌/◌, ◌%◌, ◌^◌, ◌<◌, ◌≤◌, List, [], ◌∷◌, ◌++◌, take, replicate, sym, ◌∙◌, ap, arith, append_assoc, append-nil, mul-one, pow-suc, lt_of_le_of_lt, le-mul_of_pos_right, lit<, le_of_lt, mul-le-mul}
 use Rattle.std.proofs.Math.Nat.{one-le-pow, pow-le-pow_right}
 use Rattle.std.specs.Fmt.{decimal}

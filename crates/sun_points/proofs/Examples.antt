@@ -1,4 +1,5 @@
--- Checks the definitions by examples of register values.
+-- Checks the definitions of counts, scale factors, point values and printed texts by examples of
+-- register values.
 use Rattle.std.proofs.Common.{◌≡◌, pos, negsuc, refl, Some, None, [], ◌∷◌}
 use Rattle.std.specs.Prelude.{codes}
 use Rattle.std.specs.Fmt.{digits}
@@ -10,7 +11,7 @@ use Rattle.sun_points.specs.Scale.{scale_of}
 use Rattle.sun_points.specs.Text.{shown_text}
 use Rattle.sun_points.specs.declared.point_type.PointType.TheVariants.{Int16, Acc32, Bitfield32}
 
--- Examples of values printed at a scale.
+-- Examples of the printed texts of values with a SunSpec scale factor.
 
 a_tenth : scaled_text (pos 2301) (negsuc 0) ≡ codes "230.1"
 unfolding digits
@@ -87,7 +88,7 @@ no_bits = refl
 bits : value_of Bitfield32 (0x7FFF ∷ 1 ∷ []) ≡ Bits 0x7FFF0001
 bits = refl
 
--- Examples of the printed forms of texts.
+-- Examples of how the program prints SunSpec points with texts or bit fields.
 
 up_to_the_zero : shown_text (0x4142 ∷ 0x0043 ∷ []) ≡ codes "AB"
 up_to_the_zero = refl

@@ -1,4 +1,5 @@
--- Lemmas about a loop that computes the lowest digits of a number, beginning with the last digit.
+-- Lemmas that a loop, which sets the digits of a list from the last digit to the first, computes
+-- the lowest digits of a number.
 use Rattle.std.proofs.Common.{◌≡◌, ℕ, ◌+◌, ◌-◌, ◌/◌, ◌%◌, ◌^◌, ◌<◌, false, List, ◌∷◌, length, drop, set, refl, ◌∙◌, ap, arith, add-one, pow-suc}
 use Rattle.std.proofs.Math.Nat.{div-div-eq-div-mul}
 use Rattle.std.specs.Fmt.{digit_glyph}

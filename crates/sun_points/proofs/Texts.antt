@@ -1,4 +1,5 @@
--- Lemmas about a text in registers that is printed byte by byte.
+-- Lemmas that printing the text in SunSpec registers byte by byte yields the printed form of the
+-- complete text.
 use Rattle.std.proofs.Common.{◌≡◌, ℕ, ◌+◌, ◌<◌, ◌==◌, List, ◌∷◌, ◌++◌, length, get_or, drop, refl, sym, ◌∙◌, ap, append_assoc, one-add, add-one, drop-cons}
 use Rattle.std.proofs.lemmas.Bool.{ne_eqb}
 use Rattle.std.specs.Int.{w16, to_be_bytes}
@@ -8,8 +9,8 @@ use Rattle.sun_points.specs.Text.{shown_byte, bytes_of}
 abbrev pub shown_bytes : List ℕ → List ℕ
 shown_bytes bytes = flat_map shown_byte (before_first (λ b. b == 0) bytes)
 
--- The loop invariant of printing: the printed form of all registers is the form printed until now
--- followed by that of the remaining registers.
+-- The loop invariant of printing the text in a list of Modbus registers. The printed form of all
+-- registers is the form printed until now followed by that of the remaining registers.
 abbrev pub ShownUpTo : List ℕ → List ℕ → List ℕ → Type 0
 ShownUpTo shown words left = shown_bytes (bytes_of words) ≡ shown ++ shown_bytes (bytes_of left)
 

@@ -8,7 +8,7 @@ use Rattle.sun_points.specs.declared.point_type.PointType.TheVariants as kind
 use Rattle.sun_points.specs.declared.point.Point.{Point}
 use Rattle.sun_points.specs.declared.point.Point.TheVariants as lent
 
--- The value of a SunSpec point, independent of the registers that a `Point` borrows.
+-- The value of a SunSpec point as proofs use it. Unlike a `Point`, it borrows no registers.
 pub data Value : Type 0 where
   Absent : Value
   Signed : (value : ℤ) → Value
@@ -32,7 +32,8 @@ word words = slice_index words 0
 abbrev pub long : List ℕ → ℕ
 long words = 65536 * slice_index words 0 + slice_index words 1
 
--- True if the registers have the type's value for "not implemented".
+-- True if the registers of a point have the value that means "not implemented" for the point's
+-- type.
 abbrev pub is_absent : PointType → List ℕ → Bool
 is_absent kind.Int16 words = word words == 0x8000
 is_absent kind.Uint16 words = word words == 0xFFFF

@@ -11,7 +11,7 @@ use crate::text::Text;
 /// The value of a SunSpec point. A text borrows the registers.
 #[derive(Clone, Copy, PartialEq, Eq)]
 pub enum Point<'a> {
-    /// The registers have the type's value for "not implemented".
+    /// The registers have the value that means "not implemented" for the point's type.
     Absent,
     Signed(i64),
     Unsigned(u64),

@@ -11,8 +11,8 @@ use crate::sink::Sink;
 use std::io;
 
 impl Point<'_> {
-    /// Writes the value as text: `absent`, a number times the power of ten, `0x` with eight
-    /// lower-case hex digits, or the characters of a text point.
+    /// Writes the value of a SunSpec point as text: `absent`, a number times the power of ten, `0x`
+    /// with eight lower-case hex digits, or the characters of a text point.
     pub fn write<S: Sink>(&self, scale: Scale, output: &mut S) -> io::Result<()>
         ensures { S.takes output.old (point_text (seen self.now) scale) result output.new }
     {

@@ -39,7 +39,8 @@ impl Scale {
         }
     }
 
-    /// Returns the power of ten, -10 to 10.
+    /// Returns the power of ten of this scale, -10 to 10. A SunSpec scale is the power of ten by
+    /// which a point's value is multiplied.
     pub fn exponent(self) -> i8
         ensures value { result ≡ self }
         ensures low { negsuc 9 ≤ℤ result }

@@ -15,21 +15,27 @@ use Rattle.file_commands.specs.JoinedReports.{EndsReportFiles}
 use Rattle.file_commands.specs.Rollovers.{EndsCarry}
 
 module _ {S : Type 0} (g : Ghosts S) (opens : List ℕ → Held S → Type 0) where
-  -- States how the command `audit` ends over one file, or over several.
+  -- States how the command `audit` ends for one database file, or for several database files.
   abbrev pub EndsAudits : (paths : List (Bor (List ℕ))) → Sealing → (had holds : Option (List ℕ))
       → Ending → Type 0
   EndsAudits (path ∷ []) seal had holds ending = EndsAudit g opens path.now seal had holds ending
   EndsAudits paths seal had holds ending = EndsSeveral g opens paths had holds ending
 
-  -- States that the command `audit` ends with this exit status.
-  pub record AuditsWith (paths : List (Bor (List ℕ))) (seal : Sealing) (status : ℕ) : Type 0 where
+  -- States how the command `audit` ends, for some text `had` in its output before the command and
+  -- some text `holds` after it. Nothing is stated of which output this is.
+  pub record EndsAudited (paths : List (Bor (List ℕ))) (seal : Sealing) (ending : Ending) :
+      Type 0 where
     pub had : Option (List ℕ)
     pub holds : Option (List ℕ)
-    pub ending : Ending
     pub audits : EndsAudits paths seal had holds ending
+
+  -- States that the command `audit` ends with this exit status.
+  pub record AuditsWith (paths : List (Bor (List ℕ))) (seal : Sealing) (status : ℕ) : Type 0 where
+    pub ending : Ending
+    pub audits : EndsAudited paths seal ending
     pub number : status ≡ ending_number ending
 
-  -- States that the command `carry` ends with this exit status.
+  -- States that the command `carry` (a file rollover) ends with the exit status `status`.
   pub record CarriesWith (path : List ℕ) (until : Option ℕ) (status : ℕ) : Type 0 where
     pub ending : Ending
     pub carries : EndsCarry g opens path until ending
@@ -44,9 +50,9 @@ module _ {S : Type 0} (g : Ghosts S) (opens : List ℕ → Held S → Type 0) wh
     pub reports : EndsReportFiles g opens paths register form had holds ending
     pub number : status ≡ ending_number ending
 
-  -- States that the commands `audit` and `carry`, and `report` over several files, end with an exit
-  -- status that is right for what they found, did or printed. Nothing is stated of the other
-  -- commands.
+  -- States that each of the commands `audit` and `carry`, and `report` over several files, ends
+  -- with the exit status that its contract states for the command's result. Nothing is stated of
+  -- the other commands.
   abbrev pub EndsCommand : CommandLine → (status : ℕ) → Type 0
   EndsCommand (Audit dbs seal) status = AuditsWith dbs.items seal status
   EndsCommand (Carry from to until) status = CarriesWith from.now until status

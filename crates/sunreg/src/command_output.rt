@@ -6,8 +6,8 @@ use std::io::{self, LineWriter, Write};
 /// A writer for the output of a command that works on a database file. It writes chunks of about 8
 /// KiB, or line by line. With line output, it can also store a copy of the output.
 ///
-/// All ways of printing are variants of one type, because the generic functions that use the writer
-/// are then compiled only once.
+/// `CommandOutput` is one type with a variant for each way of printing. Thus the generic functions
+/// that write to it are compiled only once.
 #[derive(Drop)]
 pub(crate) enum CommandOutput<W: Write + Drop> {
     Pieces(Buffered<W>),

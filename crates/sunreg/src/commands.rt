@@ -1,6 +1,6 @@
 //! Executes commands with the standard streams, files and sockets of the process.
 ghost use Rattle.std.specs.Process.{exit_status};
-ghost use Rattle.sunreg.specs.Commands.{EndsCommand};
+ghost use Rattle.sunreg.specs.Commands.{EndsAudited, EndsCommand};
 
 use crate::completions::completions;
 use crate::ended;
@@ -14,7 +14,7 @@ use crate::run_words::settings_of;
 use crate::scans::{Target, scan};
 use crate::surroundings::Surroundings;
 use command_io::{Buffered, ExitStatus};
-use command_words::CommandLine;
+use command_words::{CommandLine, Sealing};
 use file_commands::{
     OfficeFiles, audit, audit_several, backup, carry, create, recover, report_files,
 };
@@ -37,7 +37,7 @@ pub(crate) fn carry_out(rt: &HostRuntime, line: &CommandLine<'_>) -> ExitCode {
     carry_out_over(rt, &files, line)
 }
 
-// Executes a command with the given source of files.
+// Executes a command, which opens database files through the given object `files`.
 fn carry_out_over<D: OfficeFiles + NamedFiles>(
     rt: &HostRuntime,
     files: &D,
@@ -152,14 +152,27 @@ fn carry_out_over<D: OfficeFiles + NamedFiles>(
         CommandLine::Carry { from, to, until } => {
             carry(rt, files, *from, *to, *until, &mut io::writer(rt))
         }
-        CommandLine::Audit { dbs, seal } => match dbs.as_slice() {
-            [db] => audit(rt, files, *db, *seal, &mut io::writer(rt)),
-            several => audit_several(rt, files, several, &mut io::writer(rt)),
-        },
+        CommandLine::Audit { dbs, seal } => audit_files(rt, files, dbs.as_slice(), *seal),
         CommandLine::Explain { what, number } => explain(rt, *what, *number),
         CommandLine::Completions => completions(rt),
     };
     ended(rt, &ending)
+}
+
+// Audits one file, or several files one after another.
+fn audit_files<'a, D: OfficeFiles>(
+    rt: &HostRuntime,
+    files: &D,
+    paths: &[&'a str],
+    seal: Sealing<'a>,
+) -> Ending<'a>
+    ensures { EndsAudited D.Store.Store (D.opens files.now) paths.now seal.entry result }
+{
+    match paths {
+        [path] => audit(rt, files, *path, seal, &mut io::writer(rt)),
+        [] => audit_several(rt, files, paths, &mut io::writer(rt)),
+        [_, _, ..] => audit_several(rt, files, paths, &mut io::writer(rt)),
+    }
 }
 
 fn run_loop<'a>(rt: &HostRuntime, zone: &'a str) -> Ending<'a> {

@@ -15,7 +15,7 @@ use sun_chain::scans::{CounterScale, ScanFault, read_counter};
 /// A reason why a device's counter could not be read.
 #[derive(Clone, Copy, Drop)]
 pub(crate) enum Unread<'a> {
-    /// The arguments have no address for the device.
+    /// The command line arguments have no address for the device.
     Nowhere {
         device: Name,
     },
@@ -28,8 +28,8 @@ pub(crate) enum Unread<'a> {
         port: u16,
         fault: ScanFault,
     },
-    /// The read returned no valid value. For example, the device did not respond, responded with a
-    /// Modbus exception, or returned a scale outside -3 to 3.
+    /// The read of a device's counter returned no valid value. For example, the device did not
+    /// respond, responded with a Modbus exception, or returned a scale outside -3 to 3.
     Untold {
         host: &'a str,
         port: u16,

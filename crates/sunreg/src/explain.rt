@@ -7,8 +7,8 @@ use stored_files::{Ending, Failure};
 /// An upper bound of the numeric codes that the program prints after a word such as `held`.
 const MOST_NUMBER: u32 = 999;
 
-// Returns a phrase that says what the numeric codes of a kind belong to. Codes of several kinds are
-// printed after the same word, such as `fault`.
+// Returns a phrase that says what the numeric codes of a kind belong to, such as ` of an HTTP
+// request`. Codes of several kinds are printed after the same word, such as `fault`.
 fn owner(kind: Kind) -> &'static str {
     match kind {
         Kind::RowFault => " of a point list row",
@@ -77,7 +77,7 @@ fn has_number(what: &str, number: u32) -> bool {
         .any(|kind| meaning_at(*kind, what, number).is_some())
 }
 
-// Writes all numeric codes that the program can print after the word `what`.
+// Writes all numeric codes that the program can print after the word `what`, such as `held`.
 fn write_numbers<W: Write>(what: &str, output: &mut W) -> io::Result<()> {
     for number in 0..=MOST_NUMBER {
         if has_number(what, number) {

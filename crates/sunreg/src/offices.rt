@@ -62,7 +62,7 @@ fn over_connection<'a, D: Databases + NamedFiles, C: Clock>(
         &mut errors,
     );
     match (output.flush(), done) {
-        // The remaining output is dropped if its reader has closed standard output.
+        // The remaining output is dropped if the reader of standard output has closed its end.
         (Err(error), Ok(Done::Ran(end))) if error.kind() == ErrorKind::BrokenPipe => {
             Ok(Done::Ran(end))
         }

@@ -8,8 +8,8 @@ use std::io::{self, ErrorKind};
 use std::os::unix::fs::MetadataExt;
 use stored_files::{Failure, FileFault, is_blank, length_of, log_of};
 
-/// The maximum number of empty files that one call of `led_file` removes. A killed process can
-/// leave such a file.
+/// The maximum number of empty files that one call of `led_file` (which finds the current file of
+/// `run --carry`) removes. A killed process can leave such a file.
 const TRIES: u32 = 8;
 
 /// The file to which `run --carry` currently writes, with its period, such as `2026-11`. The file
@@ -21,8 +21,8 @@ pub(crate) struct Led {
 }
 
 impl Led {
-    /// Returns the current file's period, such as `2026-11`. Returns `None` for the file that the
-    /// arguments name.
+    /// Returns the period, such as `2026-11`, of the file to which `run --carry` currently writes.
+    /// Returns `None` for the file that the arguments name.
     pub(crate) fn period(&self) -> Option<&[u8]> {
         match &self.text {
             Some(text) => Some(text.as_slice()),
@@ -55,16 +55,16 @@ fn names_in(rt: &HostRuntime, folder: &str) -> io::Result<Vec<Vec<u8>>> {
     Ok(names)
 }
 
-// Returns the period of the current file in the folder of `file`, which is the file that the
-// arguments name.
+// Returns the period of the file to which `run --carry` currently writes. The function searches the
+// folder of `file`, which is the file that the arguments name.
 fn period_beside(rt: &HostRuntime, file: &str, period: Period) -> io::Result<ActivePeriod> {
     let (folder, name) = split_path(file);
     let names = names_in(rt, folder)?;
     Ok(active_period(rt.alloc(), name.as_bytes(), period, names.as_slice())?)
 }
 
-/// Returns the path of the file for the period `text`, in the folder of the file that the arguments
-/// name.
+/// Returns the path of the file of `run --carry` for the period `text`, in the folder of the file
+/// that the arguments name.
 pub(crate) fn path_of<'a>(
     rt: &HostRuntime,
     file: &str,
@@ -79,8 +79,8 @@ pub(crate) fn path_of<'a>(
     }
 }
 
-// Returns the current file: the file for the period `text`, or the file that the arguments name if
-// `text` is `None`.
+// Returns the file to which `run --carry` currently writes: the file for the period `text`, or the
+// file that the arguments name if `text` is `None`.
 fn led_path<'a>(rt: &HostRuntime, file: &str, text: Option<Vec<u8>>) -> Result<Led, Failure<'a>> {
     let path = match &text {
         Some(text) => path_of(rt, file, text.as_slice())?,
@@ -92,8 +92,8 @@ fn led_path<'a>(rt: &HostRuntime, file: &str, text: Option<Vec<u8>>) -> Result<L
     Ok(Led { path, text })
 }
 
-// Returns the current file of a run, judged only by the file names in the folder. If the folder
-// does not exist, the current file is the one that the arguments name.
+// Returns the file to which `run --carry` currently writes, judged only by the file names in the
+// folder. If the folder does not exist, this is the file that the arguments name.
 fn named_file<'a>(rt: &HostRuntime, file: &'a str, period: Period) -> Result<Led, Failure<'a>> {
     match period_beside(rt, file, period) {
         Ok(led) => led_path(rt, file, led.text),
@@ -106,8 +106,9 @@ fn named_file<'a>(rt: &HostRuntime, file: &'a str, period: Period) -> Result<Led
     }
 }
 
-// Returns whether the current file is an empty file of a period, whose log is empty or missing. A
-// killed process may leave such a file on a file system without hard links.
+// Returns whether the file to which `run --carry` currently writes is the empty file of a period,
+// and its log is empty or missing. A killed process may leave such a file on a file system without
+// hard links.
 fn is_left_empty<'a>(rt: &HostRuntime, led: &Led) -> Result<bool, Failure<'a>> {
     let path = led.path.as_str();
     if led.text.is_none() || length_of(rt, path) != Some(0) {
@@ -117,8 +118,9 @@ fn is_left_empty<'a>(rt: &HostRuntime, led: &Led) -> Result<bool, Failure<'a>> {
     Ok(is_blank(length_of(rt, log.as_str())))
 }
 
-/// Returns the current file of a run: the file of the latest period in the folder, or the file that
-/// the arguments name if no period has a file. First removes empty files of periods.
+/// Returns the file to which `run --carry` currently writes: the file of the latest period in the
+/// folder, or the file that the arguments name if no period has a file. First removes empty files
+/// of periods.
 pub(crate) fn led_file<'a>(
     rt: &HostRuntime,
     file: &'a str,
@@ -134,8 +136,8 @@ pub(crate) fn led_file<'a>(
     named_file(rt, file, period)
 }
 
-// Returns all periods before `current` that have a file in the folder, such as `2026-10`, the
-// oldest first.
+// Returns all periods (months or years, such as `2026-10`) before `current` that have a file in the
+// folder, the oldest first.
 fn periods_beside(
     rt: &HostRuntime,
     file: &str,
@@ -154,8 +156,8 @@ fn periods_beside(
     Ok(periods)
 }
 
-// Returns the paths of the files for the periods `texts`, in order. If the file that the arguments
-// name exists, its path comes first.
+// Returns the paths of the files for the periods `texts`, in the order of `texts`. If the file that
+// the arguments name exists, its path comes first.
 fn paths_before<'a>(
     rt: &HostRuntime,
     file: &str,

@@ -33,7 +33,8 @@ const TRIES: u32 = 100;
 /// The maximum number of checks for a file that another process may be creating.
 const LOOKS: u32 = 30;
 
-/// The time between two attempts to open a file, or between two checks, in milliseconds.
+/// The time between two attempts to open a file, or between two checks whether a file exists, in
+/// milliseconds.
 const PAUSE: u64 = 100;
 
 const NOT_CARRIED: &str = "not carried: it stays in use, and sunreg tries again at the next hour";
@@ -104,7 +105,7 @@ fn say_alone(rt: &HostRuntime, path: &str) {
 }
 
 // Reports why the meters of a file could not be continued in the next file, and what the command
-// does instead.
+// `run --carry` does instead.
 fn say_not_carried(rt: &HostRuntime, from: &str, why: &NotCarried<'_>, comes: &str) {
     let mut lines = Vec::new(rt.alloc());
     let _written = write_why(&mut lines, why);
@@ -137,7 +138,7 @@ struct Asked<'r, D> {
 }
 
 impl<D> Asked<'_, D> {
-    // Returns the period and the polling interval of the command.
+    // Returns the period and the polling interval of the command `run --carry`.
     fn rollover(&self) -> Rollover {
         Rollover {
             period: self.period,
@@ -145,13 +146,15 @@ impl<D> Asked<'_, D> {
         }
     }
 
-    // Returns whether the command `run` also reports the energy of earlier files.
+    // Returns whether the command `run` also reports the energy of earlier files, because its
+    // arguments name such files or the number of earlier periods to report.
     fn has_earlier(&self) -> bool {
         self.earlier.is_some() || !self.given.is_empty()
     }
 
-    // Returns the maximum number of earlier period files whose energy is reported. If the arguments
-    // name earlier files, all period files up to the current file are included.
+    // Returns the maximum number of earlier period files (files of one month or year) whose energy
+    // is reported. If the arguments name earlier files, all period files up to the current file are
+    // included.
     fn most_earlier(&self) -> u32 {
         if self.given.is_empty() {
             self.earlier.unwrap_or(0)
@@ -199,7 +202,7 @@ fn paths_of<'p>(
 }
 
 // Returns the energy of all accounting registers (energy counters) in the files that are older than
-// the file at `path`. Does not wait for the reader of standard error.
+// the file at `path`. Writes error messages to standard error without waiting for its reader.
 fn registers_before<'a, D: OfficeFiles>(
     rt: &HostRuntime,
     files: &D,
@@ -236,8 +239,8 @@ fn untold(
     Ok(Vec::new(rt.alloc()))
 }
 
-// Returns the energy of all registers in the files older than the file at `path`, if the options
-// request it.
+// Returns the energy of all accounting registers (energy counters) in the files older than the file
+// at `path`, if the options request this energy.
 fn requested_registers<D: OfficeFiles>(
     asked: &Asked<'_, D>,
     path: &str,
@@ -412,8 +415,8 @@ fn carry_on<D: OfficeFiles + NamedFiles, C: Clock + Drop>(
     run_at(asked, to, true, clock, run)
 }
 
-// Opens the current file of the command `run`. If another process has the file open, waits, except
-// when the command begins.
+// Opens the current file of the command `run`. If another process has the file open, waits for it.
+// At the start of the command (`is_first`), fails instead of waiting.
 fn open_led<'a, D: Databases>(
     rt: &HostRuntime,
     files: &D,
@@ -427,7 +430,7 @@ fn open_led<'a, D: Databases>(
     }
 }
 
-// Polls devices and serves HTTP over the current file, which is open.
+// Polls devices and serves HTTP over the current database file of `run --carry`, which is open.
 fn stay<D: OfficeFiles + NamedFiles, C: Clock + Drop>(
     asked: &Asked<'_, D>,
     path: &str,
@@ -436,15 +439,17 @@ fn stay<D: OfficeFiles + NamedFiles, C: Clock + Drop>(
     run: OneRun,
 ) -> Option<ExitCode> {
     if asked.has_earlier() {
-        // Closes the current file, which is opened again after the earlier files were read.
+        // Closes the current database file of `run --carry`, which is opened again after the
+        // earlier files were read.
         drop(connection);
         return run_at(asked, path, false, clock, run);
     }
     run_in(asked, path, connection, &[], clock, run)
 }
 
-// Polls devices and serves HTTP over the current file or over a new file, as `course` says. `begun`
-// says whether this is the command's first run, and has the command's remaining duration.
+// Polls devices and serves HTTP over the current file or over a new file, as the decision `course`
+// says. `begun` says whether this is the command's first run, and has the command's remaining
+// duration.
 fn follow<D: OfficeFiles + NamedFiles, C: Clock + Drop>(
     asked: &Asked<'_, D>,
     path: &str,
@@ -476,8 +481,8 @@ fn follow<D: OfficeFiles + NamedFiles, C: Clock + Drop>(
     }
 }
 
-// Polls devices and serves HTTP over the current file, or over a new file if a new period has
-// begun.
+// Polls devices and serves HTTP over the current database file of `run --carry`, or over a new file
+// if a new period has begun.
 fn turn<D: OfficeFiles + NamedFiles, C: Clock + Drop>(
     asked: &Asked<'_, D>,
     clock: &mut OnwardClock<C>,

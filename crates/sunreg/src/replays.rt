@@ -18,7 +18,8 @@ pub(crate) fn replay_memory<'a>(rt: &HostRuntime, zone: &'a str) -> Ending<'a> {
     ending_of(run.status)
 }
 
-/// Executes the script on standard input with the database file at `path` as the store.
+/// Executes the script (a text of commands, events and queries) on standard input, with the
+/// database file at `path` as the store.
 pub(crate) fn replay_file<'a, D: Databases>(
     rt: &HostRuntime,
     files: &D,

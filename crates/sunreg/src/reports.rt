@@ -1,5 +1,5 @@
-//! Prints the energy of an accounting register from one file, or a statement, which has one row for
-//! each of the register's meters.
+//! Prints the energy of an accounting register (a named energy counter) from one file, or a
+//! statement, which has one row for each of the register's meters.
 use crate::offices::{OWN_HOST, over_office};
 use command_words::FormWords;
 use file_commands::{OfficeFiles, Opening, Wanted, wanted_of};
@@ -7,9 +7,9 @@ use office_program::NamedFiles;
 use stored_files::Ending;
 use stored_office::{Task, ending_of_done};
 
-/// Prints the energy of an accounting register, by default by days, or prints a statement, which
-/// has one row for each of the register's meters. If the database file at `path` cannot be opened
-/// for writing, reads a temporary copy of it.
+/// Prints the energy of an accounting register (a named energy counter), by default by days, or
+/// prints a statement, which has one row for each of the register's meters. If the database file at
+/// `path` cannot be opened for writing, reads a temporary copy of it.
 pub(crate) fn report<'a, D: OfficeFiles + NamedFiles>(
     rt: &HostRuntime,
     files: &D,

@@ -5,9 +5,9 @@ use stored_files::{Ending, Failure};
 
 /// The text that says that the program was not proved.
 ///
-/// In the program that it proved, `./sunreg-build` replaces this text by a text of the same length,
-/// with the logic of the proofs and the checksum of the sources (bench/identity.py). A source file
-/// can't contain the checksum of all sources.
+/// In the program that it proved, `./sunreg-build` replaces the text of `BUILD` by a text of the
+/// same length. That text has the logic of the proofs and the checksum of the sources
+/// (bench/identity.py). A source file can't contain the checksum of all sources.
 static BUILD: &str =
     "not proved: compiled without ./sunreg-build, which proves the sources and marks the result";
 

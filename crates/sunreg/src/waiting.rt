@@ -4,7 +4,8 @@ use std::io::{IsTerminal, Write};
 const WAITS: &[u8] =
     b"sunreg: reading a script from this terminal; end it with Ctrl-D, or see sunreg --help\n";
 
-/// Reports that the program waits for a script, if standard input is a terminal.
+/// Reports on standard error that the program reads a script (a text of commands, events and
+/// queries) from the terminal, if standard input is a terminal.
 pub(crate) fn say_waiting(rt: &HostRuntime) {
     if rt.stdin().is_terminal() {
         let mut errors = rt.stderr();

@@ -1,5 +1,5 @@
--- Lemmas: a meter's rows follow from a history that the rules accept if and only if they agree with
--- the result of checking all entries.
+-- Lemmas: a meter's rows follow from a history that the rules for meter entries accept if and only
+-- if these rows agree with the result of checking all the meter's entries.
 use Rattle.std.proofs.Common.{◌≡◌, ℕ, ◌+◌, ◌-◌, ◌<◌, List, [], ◌∷◌, ◌++◌, reverse, take, drop, length, get_or, Option, Some, None, MatchOption, Err, refl, sym, ap, subst, ◌∙◌, arith}
 use Rattle.std.proofs.lemmas.List.{reverse-append, take_all, take-append-drop, append_cancel_right}
 use Rattle.energy_core.specs.declared.entries.Last.{Last}
@@ -55,7 +55,8 @@ where_some P Q o a is h = subst (λ q. MatchOption q P Q) is h
 pub where_none : {A : Type 0} (P : Type 0) (Q : A → Type 0) (o : Option A) → o ≡ None → MatchOption o P Q → P
 where_none P Q o is h = subst (λ q. MatchOption q P Q) is h
 
--- Lemmas on the opening of a meter, its first entry.
+-- Lemmas: a meter is determined by its opening row (first entry), counter range and ceiling
+-- (greatest power). A meter's rows are valid only if they begin with its opening.
 
 abbrev meter_with : (range ceiling : ℕ) → Last → Installed
 meter_with range ceiling opening = record { range = range; ceiling = ceiling; opening = opening }
@@ -78,8 +79,8 @@ opening_last entries opening later last first is =
     ap (λ (rs : List TableRow). reverse rs) first ∙ reverse-append (opening ∷ []) later
     ∙ ap (λ (r : TableRow). reverse later ++ r ∷ []) is
 
--- States that the meter's rows follow from its entries without a discrepancy. The entries are the
--- meter's opening (the first entry) and the entries `later`.
+-- States that a meter's rows are those that the program would write for its entries. The entries
+-- are the meter's opening (the first entry) and the entries `later`.
 record HasOpened (range : ℕ) (row : InstallationRow) (voids : List ℕ) (entries : List TableRow) (shares : List Share) (meter : Installed)
     (later : List TableRow) : Type 0 where
   fine : AreFine meter (tables_from entries shares row)
@@ -112,8 +113,8 @@ pub no_entry : (range : ℕ) (row : InstallationRow) (voids : List ℕ) (entries
 no_entry range row voids entries shares none lawful =
     let both : [] ≡ lawful.opening ∷ lawful.later = sym none ∙ lawful.first in absurd (cc)
 
--- Suppose that no history that the rules accept has a meter's entries after the opening (the first
--- entry). Then the rules do not accept the meter's rows either.
+-- Suppose that no history that the rules for meter entries accept has a meter's entries after the
+-- opening (the first entry). Then the rules do not accept the meter's rows either.
 pub not_reported : (range : ℕ) (row : InstallationRow) (voids : List ℕ) (entries : List TableRow) (shares : List Share) (meter : Installed)
     (opening : TableRow) (later : List TableRow) → entries ≡ opening ∷ later → IsOpenedBy range row.ceiling opening meter
     → (AreReported meter (reverse later) → ⊥) → IsLawful range row voids entries shares → ⊥
@@ -128,7 +129,8 @@ not_reported range row voids entries shares meter opening later first opened non
       reported_is = append_cancel_right (reverse later) (later_rows meter rows) (opening_row meter.opening ∷ []) both;
     })
 
--- Lemmas on a meter's rows after the check of all its entries.
+-- Lemmas that a meter's rows agree with the result of checking all its entries if and only if they
+-- follow from a history that the rules for meter entries accept.
 
 pub rest_is_lawful : FinishedIsFine → (range : ℕ) (row : InstallationRow) (voids : List ℕ) (entries : List TableRow) (shares : List Share)
     (meter : Installed) (opening : TableRow) (later : List TableRow) (progress : Progress)

@@ -1,6 +1,6 @@
 -- Lemmas on the discrepancies that an audit reports for polls. The discrepancies of all rows are
 -- those of each row, one after another, and valid polls have none.
-use Rattle.std.proofs.Common.{◌≡◌, ◌+◌, ◌-◌, ◌<◌, ◌≤◌, ◌==◌, ℕ, zero, suc, Bool, true, false, nat_lt, nat_le, ◌&&◌, ◌||◌, if◌then◌else◌, List, [], ◌∷◌, ◌++◌, drop, length, get_or, Option, Some, Result, Ok, Err, unwrap_or, refl, sym, ap, subst, ◌∙◌, append_assoc, arith, add-one}
+use Rattle.std.proofs.Common.{◌≡◌, ◌+◌, ◌-◌, ◌<◌, ◌≤◌, ◌==◌, ℕ, zero, suc, max, Bool, true, false, nat_lt, nat_le, ◌&&◌, ◌||◌, if◌then◌else◌, List, [], ◌∷◌, ◌++◌, drop, length, get_or, Option, Some, Result, Ok, Err, unwrap_or, refl, sym, ap, subst, ◌∙◌, append_assoc, arith, add-one}
 use Rattle.std.specs.List.{list_any, list_all}
 use Rattle.std.proofs.Math.Seq.{drop-cons}
 use Rattle.std.proofs.Math.ListN.{drop_of_length-le}
@@ -12,13 +12,13 @@ use Rattle.store_tables.proofs.ReadLemmas.{ok_is, then_read}
 use Rattle.table_audit.specs.declared.differences.Difference.{Difference}
 use Rattle.table_audit.specs.declared.differences.Difference.TheVariants.{Poll, NoPolls}
 use Rattle.table_audit.specs.declared.differences.PollFault.{PollFault}
-use Rattle.table_audit.specs.declared.differences.PollFault.TheVariants.{OutOfRange, EndOutOfRange, OutOfOrder, EndedBefore}
+use Rattle.table_audit.specs.declared.differences.PollFault.TheVariants.{OutOfRange, EndOutOfRange, OutOfOrder, EndedBefore, StartedBefore}
 use Rattle.table_audit.specs.declared.poll_rows.OutcomeRow.{OutcomeRow}
 use Rattle.table_audit.specs.declared.poll_rows.PollRow.{PollRow}
 use Rattle.table_audit.specs.declared.poll_rows.RunRows.{RunRows}
-use Rattle.table_audit.specs.PollDifferences.{each_of, number_in, unread, unread_poll, unread_outcome, number_by, number_of, gap, rises, reported_at, next_after, reported_by, after_by, order_of, began_by, began, early_by, early, first_number, last_number, values_of, turns_of, differences_of_run, differences_of_runs}
+use Rattle.table_audit.specs.PollDifferences.{each_of, number_in, unread, unread_poll, unread_outcome, number_by, number_of, gap, rises, reported_at, next_after, reported_by, after_by, order_of, began_by, began, early_by, early, first_number, last_number, values_of, later_start, latest_start, latest_of_runs, fallen_by, fallen_from, turns_of, differences_of_run, differences_of_runs}
 use Rattle.table_audit.specs.PollReading.{poll_in, outcome_in}
-use Rattle.table_audit.specs.Polls.{are_numbered, is_begun, has_begun, IsFineRun, AreFineRuns}
+use Rattle.table_audit.specs.Polls.{are_numbered, starts_rise, is_begun, has_begun, IsFineRun, AreFineRuns}
 use Rattle.table_audit.specs.Reading.{all_in}
 use Rattle.table_audit.proofs.Named.{append_none, both_none}
 
@@ -107,7 +107,8 @@ eq_is a b h = grind (arith, nat_tests)
 eq_of : (a b : ℕ) → (a == b) ≡ true → a ≡ b
 eq_of a b h = grind (arith, nat_tests)
 
--- Lemmas on rows of polls and outcomes with values out of range.
+-- Lemmas that an audit reports no value out of range if and only if all rows of polls and outcomes
+-- can be parsed.
 
 read_of : {X : Type 0} (fault : PollFault) (row : Row) (r : Result X RowFault) → unread fault row r ≡ [] → (x : X) × (r ≡ Ok x)
 read_of fault row (Ok x) none = (x, refl)
@@ -132,7 +133,8 @@ module _ {X : Type 0} (fault : PollFault) (read : Row → Result X RowFault) whe
       let two = then_read (all_in read rows) _ xs one.2 in
       ap (λ (q : Result X RowFault). unread fault row q ++ each_of (λ r. unread fault r (read r)) rows) one.1 ∙ none_unread rows two.0 two.1
 
--- Lemmas on missing and disordered poll numbers.
+-- Lemmas that an audit reports no missing or disordered poll number if and only if the poll numbers
+-- are consecutive.
 
 gap_closed : (next below : ℕ) → gap next below ≡ [] → below ≤ next
 gap_closed next below none = not_lt next below (if_none (nat_lt next below) (NoPolls next (below - 1)) [] none)
@@ -208,6 +210,67 @@ none_order next last (row ∷ rows) polls h all =
     ∙ ap (λ m. order_of m last rows) (then_next next last n it)
     ∙ none_order (next + 1) last rows two.0 two.1 second.1
 
+-- Lemmas on polls that started before an earlier poll.
+
+pub fallen_more : (rows : List Row) (i : ℕ) (row : Row) (since next : ℕ) (found new all : List Difference) → i < length rows → row ≡ get_or rows i row
+    → found ++ fallen_from since (drop i rows) ≡ all → new ≡ found ++ fallen_by since (poll_in row) → next ≡ later_start since (poll_in row)
+    → new ++ fallen_from next (drop (i + 1) rows) ≡ all
+fallen_more rows i row since next found new all inside is so_far put after =
+    let one : fallen_from since (drop i rows) ≡ fallen_by since (poll_in row) ++ fallen_from next (drop (i + 1) rows) =
+    ap (λ (rs : List Row). fallen_from since rs) (drop-cons rows i row inside)
+    ∙ ap (λ (r : Row). fallen_by since (poll_in r) ++ fallen_from (later_start since (poll_in r)) (drop (suc i) rows)) (sym is)
+    ∙ ap (λ n. fallen_by since (poll_in row) ++ fallen_from (later_start since (poll_in row)) (drop n rows)) (sym (add-one i))
+    ∙ ap (λ n. fallen_by since (poll_in row) ++ fallen_from n (drop (i + 1) rows)) (sym after) in
+    ap (λ (l : List Difference). l ++ fallen_from next (drop (i + 1) rows)) put
+    ∙ append_assoc found (fallen_by since (poll_in row)) (fallen_from next (drop (i + 1) rows))
+    ∙ ap (λ (l : List Difference). found ++ l) (sym one) ∙ so_far
+
+pub fallen_done : (rows : List Row) (i since : ℕ) (found all : List Difference) → length rows ≤ i
+    → found ++ fallen_from since (drop i rows) ≡ all → found ≡ all
+fallen_done rows i since found all past so_far =
+    sym (append_none found) ∙ sym (ap (λ (rs : List Row). found ++ fallen_from since rs) (drop_of_length-le rows past)) ∙ so_far
+
+pub latest_rows_more : (rows : List Row) (i : ℕ) (row : Row) (latest next all : ℕ) → i < length rows → row ≡ get_or rows i row
+    → latest_start latest (drop i rows) ≡ all → next ≡ later_start latest (poll_in row) → latest_start next (drop (i + 1) rows) ≡ all
+latest_rows_more rows i row latest next all inside is so_far after =
+    ap (λ n. latest_start n (drop (i + 1) rows)) after
+    ∙ ap (λ n. latest_start (later_start latest (poll_in row)) (drop n rows)) (add-one i)
+    ∙ ap (λ (r : Row). latest_start (later_start latest (poll_in r)) (drop (suc i) rows)) is
+    ∙ sym (ap (λ (rs : List Row). latest_start latest rs) (drop-cons rows i row inside)) ∙ so_far
+
+pub latest_rows_done : (rows : List Row) (i latest all : ℕ) → length rows ≤ i → latest_start latest (drop i rows) ≡ all → latest ≡ all
+latest_rows_done rows i latest all past so_far = sym (ap (λ (rs : List Row). latest_start latest rs) (drop_of_length-le rows past)) ∙ so_far
+
+max_is : (since started : ℕ) → since ≤ started → max since started ≡ started
+max_is since started le = omega (arith, le)
+
+fallen_none : (since : ℕ) (rows : List Row) (polls : List PollRow) → all_in poll_in rows ≡ Ok polls → fallen_from since rows ≡ [] → starts_rise since polls ≡ true
+fallen_none since [] polls h none = sym (ap (starts_rise since) (ok_is h))
+fallen_none since (row ∷ rows) polls h none =
+    let one = then_read (poll_in row) _ polls h in
+    let two = then_read (all_in poll_in rows) _ polls one.2 in
+    let poll = one.0 in
+    let split : fallen_by since (Ok poll) ++ fallen_from (max since poll.started) rows ≡ [] =
+    sym (ap (λ (q : Result PollRow RowFault). fallen_by since q ++ fallen_from (later_start since q) rows) one.1) ∙ none in
+    let both = both_none (fallen_by since (Ok poll)) (fallen_from (max since poll.started) rows) split in
+    let low = not_lt poll.started since (if_none (nat_lt poll.started since) (Poll poll.number StartedBefore) [] both.0) in
+    let later : fallen_from poll.started rows ≡ [] = subst (λ (n : ℕ). fallen_from n rows ≡ []) (max_is since poll.started low) both.1 in
+    sym (ap (starts_rise since) (ok_is two.2))
+    ∙ both_and (nat_le since poll.started) (starts_rise poll.started two.0) (le_is since poll.started low) (fallen_none poll.started rows two.0 two.1 later)
+
+none_fallen : (since : ℕ) (rows : List Row) (polls : List PollRow) → all_in poll_in rows ≡ Ok polls → starts_rise since polls ≡ true → fallen_from since rows ≡ []
+none_fallen since [] polls h all = refl
+none_fallen since (row ∷ rows) polls h all =
+    let one = then_read (poll_in row) _ polls h in
+    let two = then_read (all_in poll_in rows) _ polls one.2 in
+    let poll = one.0 in
+    let tests = and_both (nat_le since poll.started) (starts_rise poll.started two.0) (ap (starts_rise since) (ok_is two.2) ∙ all) in
+    let low = le_of since poll.started tests.0 in
+    ap (λ (q : Result PollRow RowFault). fallen_by since q ++ fallen_from (later_start since q) rows) one.1
+    ∙ ap (λ (b : Bool). (let ds : List Difference = if b then Poll poll.number StartedBefore ∷ [] else [] in ds) ++ fallen_from (max since poll.started) rows) (lt_not poll.started since low)
+    ∙ ap (λ n. fallen_from n rows) (max_is since poll.started low)
+    ∙ none_fallen poll.started rows two.0 two.1 tests.1
+
 -- Lemmas on outcomes that are earlier than the start of their polls.
 
 same_begun : (outcome : OutcomeRow) (rows : List Row) (polls : List PollRow) → all_in poll_in rows ≡ Ok polls → list_any (began outcome) rows ≡ has_begun polls outcome
@@ -245,14 +308,19 @@ module _ (poll_rows : List Row) (polls : List PollRow) (polls_read : all_in poll
       (same_begun one.0 poll_rows polls polls_read ∙ both.0)
       ∙ none_early rows two.0 two.1 both.1
 
--- Lemmas on the discrepancies in one run of polls (consecutive poll numbers), and in consecutive
--- runs.
+-- Lemmas on runs of polls (consecutive poll numbers). An audit reports no discrepancy for runs if
+-- and only if three conditions are true. All values are in range, and no number is missing or out
+-- of order. Each outcome belongs to a poll that did not start after it.
 
-none_is_fine : (run last : ℕ) (rows : RunRows) → differences_of_run run last rows ≡ [] → IsFineRun run last rows
-none_is_fine run last rows none =
-    let both = both_none (values_of rows) (turns_of run last rows) none in
+none_is_fine : (run last since : ℕ) (rows : RunRows) → differences_of_run run last since rows ≡ [] → IsFineRun run last since rows
+none_is_fine run last since rows none =
+    let order = order_of (first_number run) (last_number run last) rows.polls.items in
+    let fallen = fallen_from since rows.polls.items in
+    let late = each_of (early rows.polls.items) rows.outcomes.items in
+    let both = both_none (values_of rows) (turns_of run last since rows) none in
     let values = both_none (each_of unread_poll rows.polls.items) (each_of unread_outcome rows.outcomes.items) both.0 in
-    let turns = both_none (order_of (first_number run) (last_number run last) rows.polls.items) (each_of (early rows.polls.items) rows.outcomes.items) both.1 in
+    let turns = both_none (order ++ fallen) late both.1 in
+    let starts = both_none order fallen turns.0 in
     let polls = all_read_of OutOfRange poll_in rows.polls.items values.0 in
     let outcomes = all_read_of EndOutOfRange outcome_in rows.outcomes.items values.1 in
     record {
@@ -260,42 +328,53 @@ none_is_fine run last rows none =
       outcomes = outcomes.0;
       polls_read = polls.1;
       outcomes_read = outcomes.1;
-      numbered = order_none (first_number run) (last_number run last) rows.polls.items polls.0 polls.1 turns.0;
+      numbered = order_none (first_number run) (last_number run last) rows.polls.items polls.0 polls.1 starts.0;
+      rising = fallen_none since rows.polls.items polls.0 polls.1 starts.1;
       begun = early_none rows.polls.items polls.0 polls.1 rows.outcomes.items outcomes.0 outcomes.1 turns.1;
     }
 
 both_empty : {X : Type 0} (xs ys : List X) → xs ≡ [] → ys ≡ [] → xs ++ ys ≡ []
 both_empty xs ys h g = ap (λ l. l ++ ys) h ∙ g
 
-fine_is_none : (run last : ℕ) (rows : RunRows) → IsFineRun run last rows → differences_of_run run last rows ≡ []
-fine_is_none run last rows fine =
-    both_empty (values_of rows) (turns_of run last rows)
+fine_is_none : (run last since : ℕ) (rows : RunRows) → IsFineRun run last since rows → differences_of_run run last since rows ≡ []
+fine_is_none run last since rows fine =
+    both_empty (values_of rows) (turns_of run last since rows)
     (both_empty (each_of unread_poll rows.polls.items) (each_of unread_outcome rows.outcomes.items)
     (none_unread OutOfRange poll_in rows.polls.items fine.polls fine.polls_read)
     (none_unread EndOutOfRange outcome_in rows.outcomes.items fine.outcomes fine.outcomes_read))
-    (both_empty (order_of (first_number run) (last_number run last) rows.polls.items) (each_of (early rows.polls.items) rows.outcomes.items)
+    (both_empty (order_of (first_number run) (last_number run last) rows.polls.items ++ fallen_from since rows.polls.items) (each_of (early rows.polls.items) rows.outcomes.items)
+    (both_empty (order_of (first_number run) (last_number run last) rows.polls.items) (fallen_from since rows.polls.items)
     (none_order (first_number run) (last_number run last) rows.polls.items fine.polls fine.polls_read fine.numbered)
+    (none_fallen since rows.polls.items fine.polls fine.polls_read fine.rising))
     (none_early rows.polls.items fine.polls fine.polls_read rows.outcomes.items fine.outcomes fine.outcomes_read fine.begun))
 
-pub none_are_fine : (run last : ℕ) (runs : List RunRows) → differences_of_runs run last runs ≡ [] → AreFineRuns run last runs
-none_are_fine run last [] none = tt
-none_are_fine run last (rows ∷ others) none =
-    let both = both_none (differences_of_run run last rows) (differences_of_runs (suc run) last others) none in
-    (none_is_fine run last rows both.0, none_are_fine (suc run) last others both.1)
+pub none_are_fine : (run last since : ℕ) (runs : List RunRows) → differences_of_runs run last since runs ≡ [] → AreFineRuns run last since runs
+none_are_fine run last since [] none = tt
+none_are_fine run last since (rows ∷ others) none =
+    let later = latest_start since rows.polls.items in
+    let both = both_none (differences_of_run run last since rows) (differences_of_runs (suc run) last later others) none in
+    (none_is_fine run last since rows both.0, none_are_fine (suc run) last later others both.1)
 
-pub fine_are_none : (run last : ℕ) (runs : List RunRows) → AreFineRuns run last runs → differences_of_runs run last runs ≡ []
-fine_are_none run last [] fine = refl
-fine_are_none run last (rows ∷ others) fine =
-    both_empty (differences_of_run run last rows) (differences_of_runs (suc run) last others) (fine_is_none run last rows fine.0)
-    (fine_are_none (suc run) last others fine.1)
+pub fine_are_none : (run last since : ℕ) (runs : List RunRows) → AreFineRuns run last since runs → differences_of_runs run last since runs ≡ []
+fine_are_none run last since [] fine = refl
+fine_are_none run last since (rows ∷ others) fine =
+    let later = latest_start since rows.polls.items in
+    both_empty (differences_of_run run last since rows) (differences_of_runs (suc run) last later others) (fine_is_none run last since rows fine.0)
+    (fine_are_none (suc run) last later others fine.1)
 
-pub differences_more : (run last : ℕ) (xs : List RunRows) (x : RunRows)
-    → differences_of_runs run last (xs ++ x ∷ []) ≡ differences_of_runs run last xs ++ differences_of_run (run + length xs) last x
-differences_more run last [] x =
+pub differences_more : (run last since : ℕ) (xs : List RunRows) (x : RunRows)
+    → differences_of_runs run last since (xs ++ x ∷ []) ≡ differences_of_runs run last since xs ++ differences_of_run (run + length xs) last (latest_of_runs since xs) x
+differences_more run last since [] x =
     let there : run ≡ run + length (let none : List RunRows = [] in none) = omega arith in
-    append_none (differences_of_run run last x) ∙ ap (λ (n : ℕ). differences_of_run n last x) there
-differences_more run last (y ∷ ys) x =
+    append_none (differences_of_run run last since x) ∙ ap (λ (n : ℕ). differences_of_run n last since x) there
+differences_more run last since (y ∷ ys) x =
+    let later = latest_start since y.polls.items in
+    let latest = latest_of_runs later ys in
     let there : suc run + length ys ≡ run + length (y ∷ ys) = omega arith in
-    ap (λ (ds : List Difference). differences_of_run run last y ++ ds) (differences_more (suc run) last ys x)
-    ∙ sym (append_assoc (differences_of_run run last y) (differences_of_runs (suc run) last ys) (differences_of_run (suc run + length ys) last x))
-    ∙ ap (λ (n : ℕ). differences_of_runs run last (y ∷ ys) ++ differences_of_run n last x) there
+    ap (λ (ds : List Difference). differences_of_run run last since y ++ ds) (differences_more (suc run) last later ys x)
+    ∙ sym (append_assoc (differences_of_run run last since y) (differences_of_runs (suc run) last later ys) (differences_of_run (suc run + length ys) last latest x))
+    ∙ ap (λ (n : ℕ). differences_of_runs run last since (y ∷ ys) ++ differences_of_run n last latest x) there
+
+pub latest_more : (since : ℕ) (xs : List RunRows) (x : RunRows) → latest_of_runs since (xs ++ x ∷ []) ≡ latest_start (latest_of_runs since xs) x.polls.items
+latest_more since [] x = refl
+latest_more since (y ∷ ys) x = latest_more (latest_start since y.polls.items) ys x

@@ -1,5 +1,5 @@
 -- Lemmas that a meter's rows have no discrepancy if and only if the values read from them follow
--- from a history that the rules accept.
+-- from a history that the rules for meter entries accept.
 use Rattle.std.proofs.Common.{◌≡◌, ◌↔◌, ℕ, Bool, false, List, [], ◌∷◌, Option, Some, None, Result, Ok, Err, Vec, IfOk, IsTrue, sym, ap, subst, ◌∙◌}
 use Rattle.interval_core.specs.declared.shares.Share.{Share}
 use Rattle.meter_journal.specs.declared.audit.rows.TableRow.{TableRow}
@@ -80,8 +80,9 @@ module _ (row : InstallationRow) (rows : MeterRows) where
         (subst (λ n. IsLawful n row fine.voids fine.entries fine.shares) same_range fine.lawful)))),
   )
 
-  -- If a Boolean reports correctly whether the values parsed from a meter's rows follow the rules,
-  -- then also whether the rows do. The check may use copies of the values.
+  -- If a Boolean reports correctly whether the values parsed from a meter's rows follow the rules
+  -- for meter entries, then it also reports correctly whether the rows follow these rules. The
+  -- check may use copies of the values.
   pub fine_found : (range : ℕ) (voids named vs : List ℕ) (entries es : List TableRow) (shares ss : List Share) (b : Bool)
       → named ≡ voids → vs ≡ voids → es ≡ entries → ss ≡ shares
       → all_in range_in rows.ranges.items ≡ Ok (range ∷ []) → all_in place_in rows.voids.items ≡ Ok voids

@@ -1,5 +1,6 @@
--- A lemma on databases with the program's schema: if their tables have certain rows, then the
--- tables of the store's model have the same rows.
+-- A lemma that connects two statements on a database with the program's schema. If `HoldsRows` (the
+-- tables have certain rows, whatever their schema) is true, then `HoldsTables` (the store's tables
+-- have these rows) is true.
 use Rattle.std.proofs.Common.{◌≡◌, IsTrue, subst}
 use Rattle.sqlite.specs.Store.{Ghosts}
 use Rattle.sqlite.specs.Held.{Held, state}

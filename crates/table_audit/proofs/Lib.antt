@@ -14,3 +14,11 @@ pub mod Found
 pub mod Lines
 pub mod HeldRows
 pub mod SchemaNames
+pub mod NameTexts
+pub mod NameAsks
+pub mod NamesFound
+pub mod SpellNames
+pub mod SpansFound
+pub mod AuditedRows
+mod Moments
+mod JsonLines

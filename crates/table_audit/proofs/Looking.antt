@@ -1,4 +1,5 @@
--- Lemmas on an SQL query after the check that the database is open, and on consecutive queries.
+-- Lemmas that combine the contracts of SQL queries: a query after the check that the database is
+-- open, and consecutive queries.
 use Rattle.std.proofs.Common.{◌≡◌, ◌⊎◌, inl, inr, false, Ok, Err, Result, IfOk, IsErrAnd, IsTrue, refl, sym, subst, ◌∙◌, arith}
 use Rattle.sqlite.specs.Store.{Ghosts}
 use Rattle.sqlite.specs.Held.{Held, state}
@@ -13,7 +14,7 @@ use Rattle.store_tables.proofs.Failures.{still_goes, goes_then, went_on, later_f
 use Rattle.store_tables.proofs.StepLemmas.{kept_then}
 use Rattle.table_audit.specs.Looking.{HoldsTables, OnlyLooks, Finds}
 
--- Lemmas on consecutive SQL queries.
+-- Lemmas that consecutive SQL queries leave the committed tables unchanged.
 
 module _ {S : Type 0} (g : Ghosts S) where
   pub holds_on : (old new : Held S) (content : Content) → OnlyLooks g old new → HoldsTables g old content → HoldsTables g new content
@@ -31,7 +32,7 @@ module _ {S : Type 0} (g : Ghosts S) where
     goes = λ content holds clean. goes_then (state g a) (state g b) (state g c) (p.goes content holds (q.clean clean)) (q.goes content (holds_on a b content p holds) clean);
   }
 
--- Lemmas on a query after the check that the database is open.
+-- Lemmas on the contract of an SQL query that follows the check that the database is open.
 
 -- The effect of a successful check that the database is open: later queries see exactly the
 -- committed rows.
@@ -109,7 +110,7 @@ module _ {S : Type 0} (g : Ghosts S) (old mid : Held S) where
       }
 
       -- If the check that the database is open succeeds, and a query then fails, the query's error
-      -- is one of the allowed store errors.
+      -- has a permitted cause, such as out of memory or a failed disk.
       pub not_asked : {A : Type 0} (e : Error) (r : Result A RowFault) (Says : Content → A → Type 0)
           → (HasCleanDisk (state g new) → (content : Content) → AreTables (state g mid).now content → IsStoreError (state g mid) (state g new) e)
           → IsErrAnd r (λ d. d ≡ Sql e) → Finds g old new r Says
@@ -123,13 +124,14 @@ module _ {S : Type 0} (g : Ghosts S) (old mid : Held S) where
         looks = looks_asked;
       }
 
--- Lemmas on the results of two consecutive queries.
+-- Lemmas that combine the contracts of two consecutive queries.
 
 both_ok : {B : Type 0} {P Q : B → Type 0} (r : Result B RowFault) → ((b : B) → P b → Q b) → IfOk r P → IfOk r Q
 both_ok (Ok b) f h = f b h
 both_ok (Err e) f h = tt
 
--- If two consecutive queries succeed, both results are true of the same committed tables.
+-- If two consecutive queries succeed, no commit changes the tables between them: both results are
+-- those of the same committed tables.
 pub finds_then : {S A B : Type 0} (g : Ghosts S) (old mid new : Held S) (a : A) (r : Result B RowFault) (P : Content → A → Type 0) (Q R : Content → B → Type 0)
     → Finds g old mid (Ok a) P → Finds g mid new r Q → ((content : Content) (b : B) → P content a → Q content b → R content b) → Finds g old new r R
 finds_then g old mid new a r P Q R one two reports = record {
@@ -142,8 +144,8 @@ finds_then g old mid new a r P Q R one two reports = record {
   looks = looks_then g old mid new one.looks two.looks;
 }
 
--- If the first of two queries fails, and the function that runs both returns its error, then the
--- function satisfies the contract of a query.
+-- If the first of two queries fails, and the function that runs both returns the error of this
+-- query, then the function satisfies the contract of a query.
 pub passed_on : {S A B : Type 0} (g : Ghosts S) (old new : Held S) (e : RowFault) (r : Result B RowFault) (P : Content → A → Type 0) (Q : Content → B → Type 0)
     → Finds g old new (Err e) P → IsErrAnd r (λ d. d ≡ e) → Finds g old new r Q
 passed_on g old new e (Ok b) P Q one fails = absurd fails
@@ -164,7 +166,8 @@ made g old new a b P Q one reports = record {
   looks = one.looks;
 }
 
--- Lemmas on calls that run no query, and on calls during which memory runs out.
+-- Lemmas that a call satisfies the contract of a query if it runs no query, or if memory runs out
+-- during the call.
 
 module _ {S : Type 0} (g : Ghosts S) (held : Held S) where
   not_looked : OnlyLooks g held held
@@ -200,3 +203,10 @@ cut_off g old new a P Q one = record {
   fault = λ content holds clean. inl refl;
   looks = one.looks;
 }
+
+-- If memory runs out after a successful query, then passing on this error satisfies the contract of
+-- a query.
+pub cut_off_by : {S A B : Type 0} (g : Ghosts S) (old new : Held S) (a : A) (e : RowFault) (r : Result B RowFault) (P : Content → A → Type 0) (Q : Content → B → Type 0)
+    → Finds g old new (Ok a) P → e ≡ Sql want_of_memory → IsErrAnd r (λ d. d ≡ e) → Finds g old new r Q
+cut_off_by g old new a e r P Q one is fails =
+    passed_on g old new e r Q Q (subst (λ (x : RowFault). Finds g old new (Err x) Q) (sym is) (cut_off g old new a P Q one)) fails

@@ -14,7 +14,8 @@ use Rattle.table_audit.specs.Named.{difference_of, IsUnder, KeepsFirst, of_none,
 use Rattle.table_audit.specs.Reporting.{Reports}
 use Rattle.table_audit.proofs.LookedAt.{all_more}
 
--- Lemmas on lists of the findings of an audit.
+-- Lemmas on lists that store only the first `n` findings of an audit. If a finding is added to the
+-- stored ones only while they are fewer than `n`, they remain the first `n` of all findings.
 
 pub kept_below : {X : Type 0} (n : ℕ) (xs : List X) (x : X) → length xs < n → xs ++ x ∷ [] ≡ take n (xs ++ x ∷ [])
 kept_below n xs x lt = let long = length-append xs (x ∷ []) in sym (take_all n (xs ++ x ∷ []) (omega (arith, long, lt)))
@@ -40,7 +41,7 @@ none_mapped : {X Y : Type 0} (f : X → Y) (xs : List X) → map f xs ≡ [] →
 none_mapped f [] none = refl
 none_mapped f (x ∷ xs) none = absurd (let g : f x ∷ map f xs ≡ [] = none in cc)
 
--- Lemmas on adding one discrepancy of a meter to the findings of an audit.
+-- Lemmas on adding the discrepancies of a meter to the findings of an audit, one by one.
 
 pub append_none : {X : Type 0} (xs : List X) → xs ++ [] ≡ xs
 append_none [] = refl
@@ -126,7 +127,8 @@ reported_named place row rows meter fine before found given old new last given_i
       λ is. items ∙ reported.1 (is.0, as_fine.0 (same.1 is.1)),
     )
 
--- Lemmas on discrepancies that belong to no meter.
+-- Lemmas about discrepancies that belong to no meter. If an audit adds them to its findings one by
+-- one, all of them are added, up to the greatest number of stored findings.
 
 take_twice : {X : Type 0} (n : ℕ) (xs ys : List X) → take n (take n xs ++ ys) ≡ take n (xs ++ ys)
 take_twice zero xs ys = refl
@@ -182,7 +184,7 @@ none_so_reported ds old new reported none no_more =
     reported.kept ∙ ap (λ (fs : List Finding). take MOST (fs ++ map of_none ds)) none
     ∙ ap (λ (es : List Difference). take MOST (map of_none es)) no_more ∙ take_all MOST [] (omega arith)
 
--- A finding without a meter's name equals the finding that `of_none` builds from the same
--- discrepancy.
+-- If a finding of an audit names no meter, appending it to a list gives the same list as appending
+-- the finding that `of_none` builds from its discrepancy.
 pub with_none : (n : ℕ) (fs : List Finding) (f : Finding) → f.meter ≡ None → take n (fs ++ f ∷ []) ≡ take n (fs ++ of_none f.difference ∷ [])
 with_none n fs f none = ap (λ m. let g : Finding = record { meter = m; difference = f.difference } in take n (fs ++ g ∷ [])) none

@@ -1,5 +1,6 @@
--- Lemmas on the result rows of the audit's queries for polls and outcomes. The columns of the
--- queried tables may have any values.
+-- Lemmas: the audit's queries for polls and outcomes return exactly the table rows that their
+-- conditions select, in the order of the queries. The columns of the queried tables may have any
+-- values.
 use Rattle.std.proofs.Common.{◌≡◌, ℤ, Bool, true, false, ◌&&◌, List, [], ◌∷◌, refl, sym, ap, ◌∙◌}
 use Rattle.std.specs.Ordering.{is_gt}
 use Rattle.sqlite.specs.declared.types.Value.TheVariants.{Int}

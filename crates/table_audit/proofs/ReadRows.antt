@@ -1,4 +1,5 @@
--- Lemmas on parsing the result rows of a query one by one.
+-- Lemmas: parsing the result rows of a query one by one gives the values of all rows in order, or
+-- fails if one row cannot be parsed.
 use Rattle.std.proofs.Common.{◌≡◌, ℕ, zero, suc, ◌+◌, ◌<◌, ◌≤◌, List, [], ◌∷◌, ◌++◌, length, take, get_or, Result, Ok, Err, refl, sym, ap, ◌∙◌, arith}
 use Rattle.std.proofs.lemmas.List.{take_more, take_all}
 use Rattle.sqlite.specs.Order.{Row}

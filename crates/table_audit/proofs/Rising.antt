@@ -30,16 +30,18 @@ stops after most p ps (inl low) = ap (λ b. b && nat_le p most && rises p most p
 stops after most p ps (inr high) =
     ap (λ b. nat_lt after p && b && rises p most ps) (le_not p most high) ∙ and_false (nat_lt after p) (rises p most ps)
 
--- Suppose that the check has accepted the numbers before position `i`. If the number at `i` is in
--- range and greater than the previous number, the check continues after `i`.
+-- Suppose that the check for increasing numbers has accepted the numbers before position `i` of a
+-- list. If the number at `i` is in range and greater than the previous number, the check continues
+-- after `i`.
 pub rises_more : (places : List ℕ) (i d after most : ℕ) → i < length places → rises 1 most places ≡ rises after most (drop i places)
     → after < get_or places i d → get_or places i d ≤ most → rises 1 most places ≡ rises (get_or places i d) most (drop (i + 1) places)
 rises_more places i d after most lt h low high =
     h ∙ ap (rises after most) (drop-cons places i d lt) ∙ goes_on after most (get_or places i d) (drop (suc i) places) low high
     ∙ ap (λ n. rises (get_or places i d) most (drop n places)) (sym (add-one i))
 
--- Suppose that the check has accepted the numbers before position `i`. If the number at `i` is out
--- of range or not greater than the previous number, the check fails.
+-- Suppose that the check for increasing numbers has accepted the numbers before position `i` of a
+-- list. If the number at `i` is out of range or not greater than the previous number, the check
+-- fails.
 pub rises_not : (places : List ℕ) (i d after most : ℕ) → i < length places → rises 1 most places ≡ rises after most (drop i places)
     → (get_or places i d ≤ after) ⊎ (most < get_or places i d) → rises 1 most places ≡ true → ⊥
 rises_not places i d after most lt h astray all =

@@ -1,4 +1,5 @@
--- Lemmas on the meaning of the audit's SQL queries.
+-- Lemmas that SQLite parses each SQL query of the audit into the expected SELECT: its table, test
+-- of rows, columns and order.
 use Rattle.std.proofs.Common.{◌≡◌, List, [], ◌∷◌, codes, ℕ, ℤ, false, refl}
 use Rattle.sqlite.specs.declared.types.Value.TheVariants.{Int, Text}
 use Rattle.sqlite.specs.Collation.TheVariants.{Binary}
@@ -19,7 +20,8 @@ use Rattle.store_tables.proofs.Scans.{scan, no_limit, one, is_param, rising, fal
 abbrev pub of_meter : List Term
 of_meter = is_param 1 0 ∷ []
 
--- Lemmas on the meaning of the SQL query for the range of a meter's counter.
+-- Lemmas: SQLite's parser builds the expected SELECT from the text of the query for the range of a
+-- meter's counter, and a database of the program can answer this query.
 
 abbrev pub range_rows : List ℕ
 range_rows = codes "SELECT \"range\" FROM ranges WHERE meter = ?1"
@@ -129,7 +131,8 @@ pub mark_rows_suits : Suits books_schema mark_rows []
 unfolding understood everything
 mark_rows_suits = suits_scan 0 [] mark_project ((col 1 0, rising) ∷ []) no_limit mark_rows mark_names [] (refl, refl, refl) mark_rows_plain mark_rows_unlisted mark_rows_is refl
 
--- Lemmas on the meaning of the SQL query for the greatest poll number.
+-- Lemmas: SQLite's parser builds the expected SELECT from the text of the query for the greatest
+-- poll number, and a database of the program can answer this query.
 
 abbrev pub last_poll : List ℕ
 last_poll = codes "SELECT poll FROM polls ORDER BY poll DESC LIMIT 1"
@@ -188,7 +191,8 @@ pub poll_rows_suits : (low high : ℤ) → Suits books_schema poll_rows (Int low
 unfolding understood everything
 poll_rows_suits low high = suits_scan 11 in_run poll_project ((col 1 0, rising) ∷ []) no_limit poll_rows poll_names (Int low ∷ Int high ∷ []) (refl, refl, refl) poll_rows_plain poll_rows_unlisted poll_rows_is refl
 
--- Lemmas on the meaning of the SQL query for the outcomes of polls with numbers in a range.
+-- Lemmas: SQLite's parser builds the expected SELECT from the text of the query for the outcomes of
+-- polls with numbers in a range. A database of the program can answer this query.
 
 abbrev pub outcome_rows : List ℕ
 outcome_rows = codes "SELECT poll, moment, outcome, code FROM outcomes WHERE poll >= ?1 AND poll <= ?2 ORDER BY poll"

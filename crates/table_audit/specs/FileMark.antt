@@ -10,28 +10,31 @@ use Rattle.store_tables.specs.Content.{Content}
 use Rattle.store_tables.specs.Meta.{meta}
 use Rattle.table_audit.specs.Showing.{InPlace}
 
--- The result row of a query on the table `meta`: its number, the file's version, and the time zone.
+-- The result row of a query on the table `meta`: the row's number, the file's version, and the time
+-- zone.
 abbrev pub mark_shown : Row → Row
 mark_shown row = column row 0 ∷ column row 2 ∷ column row 3 ∷ []
 
--- True if a query returns all rows of `meta`, in order of their numbers.
+-- True if a query returns all rows of `meta`, in ascending order of their ids.
 abbrev pub ShowsMarks : Content → List Row → Type 0
 ShowsMarks content rows = Shows every InPlace mark_shown (content meta) rows
 
--- True if the third column of a result row is a text that names a valid time zone.
+-- True if the third column of a result row is a text that is a valid time zone: a POSIX rule of at
+-- most 64 bytes.
 pub record HasZone (row : Row) : Type 0 where
   pub zone : List ℕ
   pub shown : column row 2 ≡ Text zone
   pub utf8 : IsUtf8 zone
   pub valid : IsZoneText zone
 
--- True if a result row of a query on `meta` has number 1, version 3 and a time zone.
+-- True if a result row of a query on `meta` has the id 1, version 3 and a time zone.
 pub record IsMark (row : Row) : Type 0 where
   pub number : column row 0 ≡ Int (pos 1)
   pub version : column row 1 ≡ Int (pos 3)
   pub zone : HasZone row
 
--- True if the result of a query on `meta` is a single row, as in a file of the present version.
+-- True if a query on the table `meta` (a file's version and time zone) returned a single row, and
+-- this row has the present version number.
 abbrev pub AreMarks : List Row → Type 0
 AreMarks rows = (row : Row) × (rows ≡ row ∷ []) × IsMark row
 

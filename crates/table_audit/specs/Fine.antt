@@ -9,8 +9,9 @@ use Rattle.store_tables.specs.Content.{Content}
 use Rattle.table_audit.specs.Lawful.{IsLawful}
 use Rattle.table_audit.specs.Showing.{AreRowsOf}
 
--- States that all values in the meter's rows are in their ranges, and that the meter has exactly
--- one counter range. The rows follow from a history of the meter that the rules accept.
+-- States that all values in the meter's rows are in the ranges of their columns, and that the meter
+-- has exactly one counter range. The rows follow from a history of the meter that the rules for
+-- meter entries accept.
 pub record IsFine (installation : InstallationRow) (rows : MeterRows) : Type 0 where
   pub range : ℕ
   pub voids : List ℕ
@@ -23,7 +24,7 @@ pub record IsFine (installation : InstallationRow) (rows : MeterRows) : Type 0 w
   pub lawful : IsLawful range installation voids entries shares
 
 -- True if the Boolean `fine` is true exactly when the meter's rows follow from a history that the
--- rules accept.
+-- rules for meter entries accept.
 pub record ReportsFine (meter : List ℕ) (installation : InstallationRow) (content : Content)
     (fine : Bool) : Type 0 where
   pub rows : MeterRows

@@ -1,5 +1,5 @@
 -- Defines when the values that an audit read for a meter are those of a history of the meter that
--- the rules accept.
+-- the rules for meter entries accept.
 use Rattle.std.specs.Prelude.{◌≡◌, ℕ, Bool, true, nat_lt, nat_le, ◌&&◌, List, [], ◌∷◌, reverse, length}
 use Rattle.energy_core.specs.declared.entries.Last.{Last}
 use Rattle.interval_core.specs.declared.shares.Share.{Share}
@@ -47,9 +47,9 @@ tables_from entries shares row = record {
   ended = row.is_ended;
 }
 
--- States that the values read for a meter follow from a history that the rules accept. Each void
--- record (cancellation) names an entry after the first one, and no two void records name the same
--- entry.
+-- States that the values that an audit read from a meter's table rows follow from a history that
+-- the rules for meter entries accept. Each void record (cancellation) names an entry after the
+-- first one, and no two void records name the same entry.
 pub record IsLawful (range : ℕ) (row : InstallationRow) (voids : List ℕ)
     (entries : List TableRow) (shares : List Share) : Type 0 where
   pub opening : TableRow

@@ -13,3 +13,7 @@ pub mod Polls
 pub mod Texts
 pub mod SchemaForms
 pub mod FileMark
+pub mod Names
+pub mod Spans
+pub mod Values
+pub mod JsonTexts

@@ -11,7 +11,8 @@ use Rattle.table_audit.specs.Meters.{up_to_most}
 abbrev pub difference_of : Finding → Difference
 difference_of finding = finding.difference
 
--- States that the finding has the meter name `meter`, given as bytes.
+-- States that a finding of an audit names the meter `meter`, which is given by the bytes of its
+-- name.
 abbrev pub IsUnder : (meter : List ℕ) → Finding → Type 0
 IsUnder meter finding = (name : _) × (finding.meter ≡ Some name) × (string_bytes name ≡ meter)
 
@@ -24,7 +25,8 @@ pub record KeepsFirst (meter : List ℕ) (differences : List Difference) (old ne
   pub named : AllByRecursion (IsUnder meter) added
   pub kept : new.first.items ≡ take MOST (old.first.items ++ added)
 
--- Builds a finding of an audit without a meter's name from a discrepancy.
+-- Builds a finding of an audit from a discrepancy (a difference from what the program would write)
+-- that belongs to no meter.
 abbrev pub of_none : Difference → Finding
 of_none difference = record { meter = None; difference = difference }
 

@@ -1,6 +1,6 @@
 -- Defines the discrepancies that an audit reports for one run of polls, in order. A run has `RUN`
 -- consecutive poll numbers.
-use Rattle.std.specs.Prelude.{ℕ, suc, min, ◌+◌, ◌-◌, ◌*◌, ◌==◌, Bool, false, nat_lt, nat_le, ◌&&◌, List, [], ◌∷◌, ◌++◌, Option, Some, None, Result, Ok, Err, if◌then◌else◌, unwrap_or}
+use Rattle.std.specs.Prelude.{ℕ, suc, min, max, ◌+◌, ◌-◌, ◌*◌, ◌==◌, Bool, false, nat_lt, nat_le, ◌&&◌, List, [], ◌∷◌, ◌++◌, Option, Some, None, Result, Ok, Err, if◌then◌else◌, unwrap_or}
 use Rattle.std.specs.List.{list_any}
 use Rattle.std.specs.Option.{option_map_or}
 use Rattle.sqlite.specs.Order.{Row, column}
@@ -11,7 +11,7 @@ use Rattle.table_audit.specs.PollReading.{poll_in, outcome_in}
 use Rattle.table_audit.specs.declared.differences.Difference.{Difference}
 use Rattle.table_audit.specs.declared.differences.Difference.TheVariants.{Poll, NoPolls}
 use Rattle.table_audit.specs.declared.differences.PollFault.{PollFault}
-use Rattle.table_audit.specs.declared.differences.PollFault.TheVariants.{OutOfRange, EndOutOfRange, OutOfOrder, EndedBefore}
+use Rattle.table_audit.specs.declared.differences.PollFault.TheVariants.{OutOfRange, EndOutOfRange, OutOfOrder, EndedBefore, StartedBefore}
 use Rattle.table_audit.specs.declared.poll_rows.OutcomeRow.{OutcomeRow}
 use Rattle.table_audit.specs.declared.poll_rows.PollRow.{PollRow}
 use Rattle.table_audit.specs.declared.poll_rows.RunRows.{RunRows}
@@ -27,8 +27,8 @@ first_number run = run * RUN + 1
 abbrev pub last_number : (run last : ℕ) → ℕ
 last_number run last = min last ((run + 1) * RUN)
 
--- Concatenates the lists of discrepancies that the function `differs` returns for all rows, in
--- order.
+-- Concatenates the lists of discrepancies that the function `differs` returns for all rows, in the
+-- order of the rows.
 abbrev pub each_of : (Row → List Difference) → List Row → List Difference
 each_of differs [] = []
 each_of differs (row ∷ rows) = differs row ++ each_of differs rows
@@ -37,8 +37,9 @@ each_of differs (row ∷ rows) = differs row ++ each_of differs rows
 abbrev pub number_in : Row → Option ℕ
 number_in row = whole_in 1 greatest_place (column row 0)
 
--- If a row can't be read, a list with the discrepancy `fault`, otherwise an empty list. The
--- discrepancy has the row's poll number, or 0 if this number is out of range.
+-- If a row can't be parsed (a value is out of range), a list with the discrepancy `fault`,
+-- otherwise an empty list. The discrepancy has the row's poll number, or 0 if this number is out of
+-- range.
 abbrev pub unread : {X : Type 0} → PollFault → Row → Result X RowFault → List Difference
 unread fault row (Ok read) = []
 unread fault row (Err why) = Poll (unwrap_or (number_in row) 0) fault ∷ []
@@ -84,13 +85,13 @@ abbrev pub next_after : (next last number : ℕ) → ℕ
 next_after next last number = if rises next last number then number + 1 else next
 
 -- The discrepancies in the numbering that the audit reports at a `polls` row, if `next` is the
--- expected poll number. A row whose number can't be read adds none.
+-- expected poll number. A row whose number can't be parsed adds none.
 abbrev pub reported_by : (next last : ℕ) → Option ℕ → List Difference
 reported_by next last None = []
 reported_by next last (Some number) = reported_at next last number
 
--- The poll number that is expected after a `polls` row. If the row's number can't be read, `next`
--- is still expected.
+-- The poll number that an audit expects after a row of `polls`. If the number in the row can't be
+-- parsed, the audit still expects `next`.
 abbrev pub after_by : (next last : ℕ) → Option ℕ → ℕ
 after_by next last None = next
 after_by next last (Some number) = next_after next last number
@@ -104,7 +105,8 @@ order_of next last (row ∷ rows) =
     ++ order_of (after_by next last (number_of row)) last rows
 
 -- True if an outcome belongs to the poll in a row, and the poll started no later than the outcome's
--- timestamp. If the row can't be read, only the poll number is compared.
+-- timestamp. If the row can't be parsed (a value is out of range), only the poll number is
+-- compared.
 abbrev pub began_by : OutcomeRow → Row → Result PollRow RowFault → Bool
 began_by outcome row (Ok poll) =
     (poll.number == outcome.poll) && nat_le poll.started outcome.moment
@@ -126,6 +128,32 @@ early_by polls (Err why) = []
 abbrev pub early : (polls : List Row) → Row → List Difference
 early polls row = early_by polls (outcome_in row)
 
+-- The latest start of polls, after a `polls` row is added to earlier polls. `since` is the latest
+-- start of the earlier polls. A row that can't be parsed (a value is out of range) changes nothing.
+abbrev pub later_start : (since : ℕ) → Result PollRow RowFault → ℕ
+later_start since (Ok poll) = max since poll.started
+later_start since (Err why) = since
+
+-- The latest start of all polls in a list of `polls` rows and of earlier polls. `since` is the
+-- latest start of the earlier polls.
+abbrev pub latest_start : (since : ℕ) → List Row → ℕ
+latest_start since [] = since
+latest_start since (row ∷ rows) = latest_start (later_start since (poll_in row)) rows
+
+-- A list with one discrepancy if a poll started before `since`, the latest start of the earlier
+-- polls. Otherwise the list is empty.
+abbrev pub fallen_by : (since : ℕ) → Result PollRow RowFault → List Difference
+fallen_by since (Ok poll) =
+    if nat_lt poll.started since then Poll poll.number StartedBefore ∷ [] else []
+fallen_by since (Err why) = []
+
+-- The discrepancies of all polls in a list of `polls` rows that started before an earlier poll.
+-- `since` is the latest start of the polls before the list.
+abbrev pub fallen_from : (since : ℕ) → List Row → List Difference
+fallen_from since [] = []
+fallen_from since (row ∷ rows) =
+    fallen_by since (poll_in row) ++ fallen_from (later_start since (poll_in row)) rows
+
 -- The discrepancies for all rows of one run of polls (`RUN` consecutive numbers) that have values
 -- out of range.
 abbrev pub values_of : RunRows → List Difference
@@ -133,20 +161,30 @@ values_of rows =
     each_of unread_poll rows.polls.items ++ each_of unread_outcome rows.outcomes.items
 
 -- The discrepancies in the numbers and timestamps of a run of polls (`RUN` consecutive numbers):
--- missing numbers, numbers out of order, and outcomes earlier than their polls.
-abbrev pub turns_of : (run last : ℕ) → RunRows → List Difference
-turns_of run last rows =
+-- missing numbers, numbers out of order, polls that started before earlier polls, and outcomes
+-- earlier than their polls. `since` is the latest start of the polls of earlier runs.
+abbrev pub turns_of : (run last since : ℕ) → RunRows → List Difference
+turns_of run last since rows =
     order_of (first_number run) (last_number run last) rows.polls.items
+    ++ fallen_from since rows.polls.items
     ++ each_of (early rows.polls.items) rows.outcomes.items
 
 -- All discrepancies of one run of polls (`RUN` consecutive numbers): first values out of range,
--- then missing or disordered poll numbers, then outcomes earlier than their polls.
-abbrev pub differences_of_run : (run last : ℕ) → RunRows → List Difference
-differences_of_run run last rows = values_of rows ++ turns_of run last rows
+-- then missing or disordered poll numbers, then polls that started before earlier polls, then
+-- outcomes earlier than their polls. `since` is the latest start of the polls of earlier runs.
+abbrev pub differences_of_run : (run last since : ℕ) → RunRows → List Difference
+differences_of_run run last since rows = values_of rows ++ turns_of run last since rows
 
 -- All discrepancies of consecutive runs of polls (`RUN` consecutive numbers each), beginning with
--- the run at index `run`.
-abbrev pub differences_of_runs : (run last : ℕ) → List RunRows → List Difference
-differences_of_runs run last [] = []
-differences_of_runs run last (rows ∷ others) =
-    differences_of_run run last rows ++ differences_of_runs (suc run) last others
+-- the run at index `run`. `since` is the latest start of the polls of earlier runs.
+abbrev pub differences_of_runs : (run last since : ℕ) → List RunRows → List Difference
+differences_of_runs run last since [] = []
+differences_of_runs run last since (rows ∷ others) =
+    differences_of_run run last since rows
+    ++ differences_of_runs (suc run) last (latest_start since rows.polls.items) others
+
+-- The latest start of all polls in consecutive runs (`RUN` consecutive numbers each) and of earlier
+-- polls. `since` is the latest start of the earlier polls.
+abbrev pub latest_of_runs : (since : ℕ) → List RunRows → ℕ
+latest_of_runs since [] = since
+latest_of_runs since (rows ∷ others) = latest_of_runs (latest_start since rows.polls.items) others

@@ -8,8 +8,9 @@ use Rattle.interval_core.specs.declared.shares.Share.{Share}
 use Rattle.meter_journal.specs.declared.audit.rows.RowKind.{RowKind}
 use Rattle.meter_journal.specs.declared.audit.rows.RowKind.TheVariants.{Opening, Reading, Manual, Closing, Reset, Rescale}
 use Rattle.meter_journal.specs.declared.audit.rows.TableRow.{TableRow}
+use Rattle.office_events.specs.Names.{named}
 use Rattle.sqlite.specs.declared.types.Value.{Value}
-use Rattle.sqlite.specs.declared.types.Value.TheVariants.{Text}
+use Rattle.sqlite.specs.declared.types.Value.TheVariants.{Null, Int, Real, Text, Blob}
 use Rattle.sqlite.specs.Order.{Row, column}
 use Rattle.store_tables.specs.declared.faults.RowFault.{RowFault}
 use Rattle.store_tables.specs.Columns.{whole_in, within, or_damaged, and_then}
@@ -94,3 +95,12 @@ AreRead read rows (Some found) = all_in read rows ≡ Ok found.items
 abbrev pub IsTextIn : {Z : Type 0} → Value → Option (String Z) → Type 0
 IsTextIn v None = (text : List ℕ) → IsUtf8 text → v ≡ Text text → ⊥
 IsTextIn v (Some text) = v ≡ Text (string_bytes text)
+
+-- The name of a device, register or meter in a column. The result is None if the column has no
+-- text, or a text that is no valid name.
+abbrev pub name_in : Value → Option (List ℕ)
+name_in (Text text) = named text
+name_in Null = None
+name_in (Int n) = None
+name_in (Real x) = None
+name_in (Blob bytes) = None

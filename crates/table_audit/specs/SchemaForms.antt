@@ -20,7 +20,8 @@ use Rattle.table_audit.specs.declared.schema.forms.IndexForm.{IndexForm}
 abbrev pub column_of : Bor (List ℕ) × Kind → Column
 column_of form = strict form.0.now form.1
 
--- The foreign key that the short form of a foreign key describes.
+-- The SQL foreign key that a `KeyForm` (the audit's short description of a foreign key of one of
+-- the program's tables) describes.
 abbrev pub reference_of : KeyForm → Reference
 reference_of form =
     refers form.columns.now form.parent.now (map (λ text. text.now) form.parent_columns.now)
@@ -30,7 +31,8 @@ reference_of form =
 abbrev pub no_stamps : Stamps
 no_stamps = record { places = []; terms = []; formats = [] }
 
--- The table that a short form describes: a STRICT table of NOT NULL columns.
+-- The SQL table that a `TableForm` (the audit's short description of one of the program's tables)
+-- describes: a STRICT table of NOT NULL columns.
 abbrev pub table_of : TableForm → Table
 table_of form = record {
   name = form.name.now;
@@ -47,8 +49,8 @@ table_of form = record {
   is_counted = false;
 }
 
--- The index that a short form describes. SQLite creates such an index for a UNIQUE or a PRIMARY
--- KEY.
+-- The index that an `IndexForm` (the program's short description of an index) describes. SQLite
+-- creates such an index for a UNIQUE or a PRIMARY KEY.
 abbrev pub index_of : IndexForm → Index
 index_of form = record {
   name = form.name.now;
@@ -59,8 +61,9 @@ index_of form = record {
   is_unique = true;
 }
 
--- The list of faults, one for each table of the program, in the order of the tables. Each fault
--- means that its table differs in a file.
+-- The list of faults that an audit can report for tables, one for each table of the program, in the
+-- order of the tables. Each fault means that the file defines its table differently than the
+-- program.
 abbrev pub table_faults : List SchemaFault
 table_faults =
     Meta ∷ Devices ∷ Points ∷ Registers ∷ Installations ∷ Entries ∷ Polls ∷ Holds ∷ Outcomes

@@ -88,7 +88,7 @@ abbrev pub ShowsIntervals : (meter : List ℕ) → Content → List Row → Type
 ShowsIntervals meter content rows =
     Shows (is_of meter) InOrder share_shown (content intervals_tree) rows
 
--- True if `rows` are all rows in the tables for the meter with this name.
+-- True if `rows` are all rows that the tables have for the meter with the name `meter`.
 pub record AreRowsOf (meter : List ℕ) (content : Content) (rows : MeterRows) : Type 0 where
   pub ranges : ShowsRange meter content rows.ranges.items
   pub entries : ShowsEntries meter content rows.entries.items

@@ -13,8 +13,8 @@ use sqlite::{Alter, Connection, Error, ErrorCode};
 use std::alloc::{AllocError, Global};
 use store_tables::{InstallationRow, RowFault};
 
-/// Returns whether a meter's rows follow from a history that the rules accept. Adds each
-/// discrepancy to `found`.
+/// Returns whether a meter's rows follow from a history that the rules for meter entries accept.
+/// Adds each discrepancy to `found`.
 pub fn audit_rows(
     alloc: Global,
     installation: &InstallationRow,
@@ -53,8 +53,8 @@ pub fn audit_rows(
     )
 }
 
-/// Queries a meter's rows, and returns whether they follow from a history that the rules accept.
-/// Adds each discrepancy to `found`. Memory holds all rows of the meter at once.
+/// Queries a meter's rows, and returns whether they follow from a history that the rules for meter
+/// entries accept. Adds each discrepancy to `found`. Memory holds all rows of the meter at once.
 pub fn audit_meter<S: Alter>(
     alloc: Global,
     conn: &mut Connection<S>,

@@ -13,7 +13,7 @@ use sqlite::{Alter, Connection, Error, Row};
 use std::str::from_utf8;
 use store_tables::{RowFault, check_open, whole};
 
-/// Queries all rows of `meta`, in order of their numbers.
+/// Queries all rows of `meta`, in ascending order of their ids.
 fn ask_marks<S: Alter>(conn: &mut Connection<S>) -> Result<Vec<Row>, Error>
     ensures asks { Asks S.Store conn.old conn.new }
     ensures shows { ReportsRows S.Store conn.old conn.new meta.meta itself result
@@ -45,7 +45,7 @@ fn has_zone(row: &Row) -> bool
     }
 }
 
-// Returns true if a row of `meta` has number 1, the present version of the file, and a time zone.
+// Returns true if a row of `meta` has the id 1, the present version of the file, and a time zone.
 fn is_mark(row: &Row) -> bool
     ensures { IsTrue result ↔ IsMark row.now }
 {
@@ -62,7 +62,7 @@ fn are_marks(rows: &[Row]) -> bool
     }
 }
 
-/// Returns true if the table `meta` has one row, with number 1, the program's present version and a
+/// Returns true if the table `meta` has one row, with the id 1, the program's present version and a
 /// time zone. The time zone determines the days to which the file's energy belongs.
 pub fn is_marked<S: Alter>(conn: &mut Connection<S>) -> Result<bool, RowFault>
     requires { conn.old.in_transaction ≡ false }

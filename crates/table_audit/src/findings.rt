@@ -11,8 +11,8 @@ use std::alloc::{AllocError, Global};
 /// A discrepancy that an audit found, with the name of its meter.
 #[derive(Drop)]
 pub struct Finding {
-    /// The name of the meter. It is None if the finding is about a poll, or about a row of
-    /// `installations` without a name.
+    /// The name of the meter that the audit's finding is about. It is None if the finding is about
+    /// a poll, or about a row of `installations` without a name.
     pub meter: Option<String>,
     pub difference: Difference,
 }
@@ -39,7 +39,7 @@ impl Findings {
     ghost use Rattle.table_audit.specs.Named.{KeepsFirst, IsReported};
     ghost use Rattle.table_audit.specs.Polls.{counting_polls};
 
-    /// Creates an empty list of findings, with all counts 0.
+    /// Creates an empty list of an audit's findings (discrepancies), with all counts 0.
     pub(crate) fn new(alloc: Global) -> Findings
         ensures none { result.first.items ≡ [] }
         ensures more { result.more ≡ 0 }
@@ -64,7 +64,8 @@ impl Findings {
         self.first.is_empty()
     }
 
-    /// Appends a finding to the list, or only counts it if the list already has `MOST` findings.
+    /// Appends a finding (a discrepancy) to the audit's list, or only counts it if the list already
+    /// has `MOST` findings.
     pub(crate) fn push(&mut self, finding: Finding) -> Result<(), AllocError>
         requires few { length self.old.first.items ≤ MOST }
         ensures kept { OnOk result (self.new.first.items
@@ -122,7 +123,8 @@ impl Findings {
         Ok(())
     }
 
-    /// Adds a meter, its entries and its interval rows (energies of quarter hours) to the counts.
+    /// Adds a meter, its entries and its interval rows (energies of quarter hours) to the audit's
+    /// counts of rows.
     pub(crate) fn count(&mut self, rows: &MeterRows)
         ensures counts { self.new.counts ≡ counted (Some rows.now) self.old.counts }
         ensures first { self.new.first ≡ self.old.first }
@@ -165,7 +167,7 @@ fn under(alloc: Global, meter: &str, difference: &Difference) -> Result<Finding,
     })
 }
 
-/// Builds a finding without a meter's name from a discrepancy.
+/// Builds a finding of an audit, without a meter's name, from a discrepancy.
 fn alone(difference: &Difference) -> Finding
     ensures meter { result.meter ≡ None }
     ensures difference { result.difference ≡ difference.now }

@@ -93,7 +93,8 @@ fn first_astray(last: u64, places: &[u64]) -> Option<u64>
 }
 
 /// Reports the first void record (the cancellation of a reading) that names no entry after the
-/// opening (the first entry), or names an entry again. Returns true if all void records are right.
+/// opening (the first entry), or names an entry again. Returns true if there is no such void
+/// record.
 fn append_voids(last: u64, voids: &[u64], found: &mut Differences) -> Result<bool, AllocError>
     requires few { length found.old.first.items ≤ MOST }
     ensures named { IfOk result (λ named. IsTrue named ↔ (agreeing.rises 1 last voids.now ≡ true)) }
@@ -110,7 +111,7 @@ fn append_voids(last: u64, voids: &[u64], found: &mut Differences) -> Result<boo
 }
 
 /// Reports each difference between the expected interval rows `wanted` (energies of quarter hours)
-/// and the stored rows `has`, in order.
+/// and the stored rows `has`, in the order of the quarter hours.
 fn append_each(wanted: &[Share], has: &[Share], found: &mut Differences) -> Result<(), AllocError>
     requires reported { 0 < length found.old.first.items }
     requires few { length found.old.first.items ≤ MOST }
@@ -253,7 +254,7 @@ fn append_rest(
 }
 
 /// Returns whether the values read for a meter follow from a history of the meter that the rules
-/// accept. Adds each discrepancy to `found`.
+/// for meter entries accept. Adds each discrepancy to `found`.
 pub(crate) fn audit_read(
     alloc: Global,
     range: u64,

@@ -1,14 +1,16 @@
 //! Audits a file's tables. An audit checks that each meter has the rows of a history that the rules
-//! accept, and that the polls are complete and in order. The tables may have been written by any
-//! program.
+//! for meter entries accept. It also checks that no poll number is missing and no outcome is
+//! earlier than its poll. The tables may have been written by any program.
 #![tactic(auto)]
 
 mod audit;
 mod differences;
 mod file_mark;
 mod findings;
+mod json_texts;
 mod lawful;
 mod meters;
+mod names;
 mod opening;
 mod poll_differences;
 mod poll_queries;
@@ -19,12 +21,15 @@ mod queries;
 mod reading;
 mod rows;
 mod schema;
+mod spans;
 mod texts;
+mod values;
 
 pub use audit::{audit_meter, audit_rows};
-pub use differences::{Difference, Differences, MOST, PollFault, Table};
+pub use differences::{Difference, Differences, MOST, NamedTable, PollFault, Table};
 pub use file_mark::is_marked;
 pub use findings::{Counts, Finding, Findings};
+pub use json_texts::write_json;
 pub use meters::audit_meters;
 pub use poll_queries::{last_poll, run_rows};
 pub use poll_rows::{OutcomeRow, PollRow, RUN, RunRows};
@@ -34,3 +39,4 @@ pub use reading::{entries, installation, places, range};
 pub use rows::MeterRows;
 pub use schema::{SchemaFault, check_definitions};
 pub use texts::write_findings;
+pub use values::{write_count, write_moment};

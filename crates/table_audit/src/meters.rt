@@ -1,21 +1,27 @@
 //! Audits the rows of all meters in a file's tables.
-ghost use Rattle.std.specs.Prelude.{◌≡◌, ◌≤◌, ◌↔◌, [], false, length, IsTrue, IfOk, OnOk, Some, None};
+ghost use Rattle.std.specs.Prelude.{◌≡◌, ◌≤◌, ◌↔◌, ◌++◌, [], false, length, IsTrue, IfOk, IfErr, OnOk};
+ghost use Rattle.std.specs.Prelude.{Some, None, option_to_list};
+ghost use Rattle.store_tables.specs.Failing.{want_of_memory};
 ghost use Rattle.table_audit.specs.Looking.{Finds};
 ghost use Rattle.table_audit.specs.Meters.{IsFineMeter, ReportsRow, ReportsRows, ReportsMeters, counted};
+ghost use Rattle.table_audit.specs.Named.{IsReported};
 ghost use Rattle.table_audit.specs.Reporting.{Reports};
+ghost use Rattle.table_audit.specs.Spans.{overlaps};
 
 use crate::audit::audit_rows;
-use crate::differences::{Difference, Differences, MOST, Table};
+use crate::differences::{Difference, Differences, MOST, NamedTable, Table};
 use crate::findings::{Finding, Findings};
+use crate::names::name;
 use crate::queries::{installations, meter_rows};
-use crate::reading::{installation, name};
+use crate::reading::{installation, meter_name};
 use crate::rows::MeterRows;
+use crate::spans::{MeterSpan, append_overlaps, span};
 use sqlite::{Alter, Connection, Error, ErrorCode, Row};
 use std::alloc::{AllocError, Global};
 use store_tables::RowFault;
 
-/// Reports a row of `installations` whose index `has` differs from `wanted`, the index that should
-/// follow. Returns whether the two indices are equal.
+/// Reports a row of `installations` whose index `has` differs from `wanted`, the index that follows
+/// the previous row's index. Returns whether the two indices are equal.
 fn append_index(has: u64, wanted: u64, found: &mut Differences) -> Result<bool, AllocError>
     requires few { length found.old.first.items ≤ MOST }
     ensures placed { IfOk result (λ placed. IsTrue placed ↔ (has ≡ wanted)) }
@@ -30,7 +36,7 @@ fn append_index(has: u64, wanted: u64, found: &mut Differences) -> Result<bool, 
 }
 
 /// Returns whether a row of `installations` has the index `place`, and the meter's other rows
-/// follow from a history that the rules accept. Adds each discrepancy to `found`.
+/// follow from a history that the rules for meter entries accept. Adds each discrepancy to `found`.
 fn audit_installation(
     alloc: Global,
     place: u64,
@@ -47,6 +53,10 @@ fn audit_installation(
         found.push(Difference::OutOfRange(Table::Installations))?;
         return Ok(false);
     };
+    if name(row, 2).is_none() {
+        found.push(Difference::OutOfRange(Table::Installations))?;
+        return Ok(false);
+    }
     let placed = append_index(installed.place, place, found)?;
     let fine = audit_rows(alloc, &installed, rows, found)?;
     Ok(placed && fine)
@@ -84,40 +94,75 @@ fn audit_unnamed(place: u64, findings: &mut Findings) -> Result<(), AllocError>
 {
     findings.push(Finding {
         meter: None,
-        difference: Difference::Unnamed { place },
+        difference: Difference::Unnamed {
+            table: NamedTable::Installations,
+            row: place,
+        },
     })?;
     findings.count_unnamed();
     Ok(())
 }
 
 /// Audits a row of `installations`, which should have the index `place`, and the rows of its meter.
+/// Returns the time during which the meter is installed at its register, if it can be read.
 fn audit_row<S: Alter>(
     alloc: Global,
     conn: &mut Connection<S>,
     place: u64,
     row: &Row,
     findings: &mut Findings,
-) -> Result<(), RowFault>
+) -> Result<Option<MeterSpan>, RowFault>
     requires mode { conn.old.in_transaction ≡ false }
     requires few { length findings.old.first.items ≤ MOST }
     ensures finds { Finds S.Store conn.old conn.new result
-        (λ content _. ReportsRow content place row.now findings.old findings.new) }
+        (λ content span. ReportsRow content place row.now span findings.old findings.new) }
     ensures few { OnOk result (length findings.new.first.items ≤ MOST) }
 {
-    let Some(meter) = name(row)? else {
+    let Some(meter) = meter_name(row) else {
         return match audit_unnamed(place, findings) {
-            Ok(()) => Ok(()),
+            Ok(()) => Ok(None),
             Err(_) => Err(RowFault::Sql(Error::SqliteFailure(ErrorCode::OutOfMemory))),
         };
     };
-    let rows = meter_rows(conn, &meter)?;
-    match audit_named(alloc, place, row, &meter, &rows, findings) {
+    let rows = meter_rows(conn, meter)?;
+    match audit_named(alloc, place, row, meter, &rows, findings) {
+        Ok(()) => Ok(span(row, &rows)),
+        Err(_) => Err(RowFault::Sql(Error::SqliteFailure(ErrorCode::OutOfMemory))),
+    }
+}
+
+/// Appends the time during which a meter is installed to the list, if it could be read.
+fn append_span(span: Option<MeterSpan>, spans: &mut Vec<MeterSpan>) -> Result<(), RowFault>
+    ensures appended { OnOk result (spans.new.items ≡ spans.old.items ++ option_to_list span) }
+    ensures fault { IfErr result (λ fault. fault ≡ RowFault.Sql want_of_memory) }
+{
+    if let Some(span) = span {
+        if spans.push(span).is_err() {
+            return Err(RowFault::Sql(Error::SqliteFailure(ErrorCode::OutOfMemory)));
+        }
+    }
+    Ok(())
+}
+
+/// Reports each meter that overlaps a later meter of its register.
+fn append_overlapping(
+    alloc: Global,
+    spans: &[MeterSpan],
+    findings: &mut Findings,
+) -> Result<(), RowFault>
+    requires few { length findings.old.first.items ≤ MOST }
+    ensures reported { OnOk result (IsReported (overlaps spans.now) findings.old findings.new) }
+    ensures few { OnOk result (length findings.new.first.items ≤ MOST) }
+    ensures fault { IfErr result (λ fault. fault ≡ RowFault.Sql want_of_memory) }
+{
+    match append_overlaps(alloc, spans, findings) {
         Ok(()) => Ok(()),
         Err(_) => Err(RowFault::Sql(Error::SqliteFailure(ErrorCode::OutOfMemory))),
     }
 }
 
-/// Audits several rows of `installations`, and the rows of their meters.
+/// Audits several rows of `installations`, and the rows of their meters. Then checks that the
+/// meters of each register follow each other.
 fn audit_rows_of<S: Alter>(
     alloc: Global,
     conn: &mut Connection<S>,
@@ -128,15 +173,18 @@ fn audit_rows_of<S: Alter>(
     ensures few { IfOk result (λ findings. length findings.first.items ≤ MOST) }
 {
     let mut findings = Findings::new(alloc);
+    let mut spans = Vec::new(alloc);
     for (index, row) in rows.iter().enumerate() {
-        audit_row(alloc, conn, index as u64 + 1, row, &mut findings)?;
+        let span = audit_row(alloc, conn, index as u64 + 1, row, &mut findings)?;
+        append_span(span, &mut spans)?;
     }
+    append_overlapping(alloc, spans.as_slice(), &mut findings)?;
     Ok(findings)
 }
 
-/// Audits whether each meter in the tables has the rows of a history that the rules accept. Returns
-/// the discrepancies, and how many rows were read. Memory holds all rows of `installations`, and
-/// the rows of one meter at a time.
+/// Audits whether each meter in the tables has the rows of a history that the rules accept, and
+/// whether the meters of each register follow each other. Returns the discrepancies, and how many
+/// rows were read. Memory holds all rows of `installations`, and the rows of one meter at a time.
 pub fn audit_meters<S: Alter>(alloc: Global, conn: &mut Connection<S>) -> Result<Findings, RowFault>
     requires mode { conn.old.in_transaction ≡ false }
     ensures finds { Finds S.Store conn.old conn.new result ReportsMeters }

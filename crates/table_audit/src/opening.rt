@@ -9,7 +9,8 @@ use energy_core::{Last, MAX_CEILING, MAX_SCALE, MIN_SCALE, Ranged};
 use meter_journal::Installed;
 use meter_journal::audit::{RowKind, TableRow};
 
-/// Returns whether a row of `entries` is a valid opening, the first entry of a meter.
+/// Returns whether a row of `entries` is an opening: index 1, the kind `Opening`, no rollovers, no
+/// value after a reset, and not voided (cancelled).
 fn is_opening(row: &TableRow) -> bool
     ensures { IsTrue result ↔ (row.now ≡ opening_row (last_shown row.now)) }
 {
@@ -20,8 +21,9 @@ fn is_opening(row: &TableRow) -> bool
         && !row.is_voided
 }
 
-/// Returns whether a meter's counter range, ceiling (maximum power) and opening entry (time and
-/// reading) have valid values. The time of the opening entry may have any value.
+/// Returns whether a meter's counter range, ceiling (maximum power) and opening (raw value and
+/// scale factor of the first entry) are within the program's bounds. The time of the opening may
+/// have any value.
 fn may_be_checked(meter: &Installed) -> bool
     ensures { IsTrue result ↔ MayBeChecked meter.now }
 {
@@ -34,7 +36,7 @@ fn may_be_checked(meter: &Installed) -> bool
 }
 
 /// Builds the meter that the opening entry `row` installs. Returns None if the entry is no opening,
-/// or if the meter has invalid values.
+/// or if the meter has values outside the program's bounds.
 pub(crate) fn opened(range: u64, ceiling: u64, row: &TableRow) -> Option<Installed>
     ensures may { IfSome result MayBeChecked }
     ensures opened { IfSome result (IsOpenedBy range ceiling row.now) }

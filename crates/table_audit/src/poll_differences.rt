@@ -4,6 +4,7 @@ ghost use Rattle.std.specs.Prelude.{◌≡◌, ◌≤◌, ◌<◌, ◌^◌, ◌+
 ghost use Rattle.std.specs.List.{list_any};
 ghost use Rattle.store_tables.specs.Limits.{greatest_place};
 ghost use Rattle.table_audit.specs.PollDifferences as differing;
+ghost use Rattle.table_audit.specs.PollReading.{poll_in};
 
 use crate::differences::{Difference, PollFault};
 use crate::poll_reading::{outcome, poll};
@@ -22,7 +23,7 @@ fn number(row: &Row) -> Option<u64>
     }
 }
 
-/// Appends the fault of a poll to the discrepancies in `found`.
+/// Appends the fault of a poll to `found`, a list of discrepancies that an audit found.
 fn append_difference(
     found: &mut Vec<Difference>,
     poll: u64,
@@ -153,7 +154,8 @@ fn write_order(
 }
 
 /// Returns whether a row is that of an outcome's poll, and this poll started no later than the
-/// outcome's timestamp. If the row can't be read, only its poll number is compared.
+/// outcome's timestamp. If the row can't be parsed (a value is out of range), only its poll number
+/// is compared.
 fn began(outcome: &OutcomeRow, row: &Row) -> bool
     ensures { result ≡ differing.began outcome.now row.now }
 {
@@ -236,6 +238,62 @@ fn write_each_early(
     Ok(())
 }
 
+/// Returns the latest start of polls after a `polls` row is added to earlier polls, whose latest
+/// start is `since`. A row that can't be parsed (a value is out of range) changes nothing.
+fn later_start(since: u64, row: &Row) -> u64
+    ensures { result ≡ differing.later_start since (poll_in row.now) }
+{
+    match poll(row) {
+        Ok(poll) => since.max(poll.started),
+        Err(_) => since,
+    }
+}
+
+/// Returns the latest start of the polls in a list of `polls` rows, or `since` if that is later.
+pub(crate) fn latest_start(since: u64, rows: &[Row]) -> u64
+    ensures { result ≡ differing.latest_start since rows.now }
+{
+    let mut latest = since;
+    for row in rows {
+        latest = later_start(latest, row);
+    }
+    latest
+}
+
+/// Reports a poll that started before `since`, the latest start of earlier polls.
+fn write_fallen(since: u64, row: &Row, found: &mut Vec<Difference>) -> Result<(), AllocError>
+    ensures { OnOk result
+        (found.new.items ≡ found.old.items ++ differing.fallen_by since (poll_in row.now)) }
+{
+    match poll(row) {
+        Ok(poll) => {
+            if poll.started < since {
+                append_difference(found, poll.number, PollFault::StartedBefore)?;
+            }
+            Ok(())
+        }
+        Err(_) => Ok(()),
+    }
+}
+
+/// Reports each poll in a list of `polls` rows that started before an earlier poll. `since` is the
+/// latest start of the polls before the list.
+fn write_each_fallen(
+    since: u64,
+    rows: &[Row],
+    found: &mut Vec<Difference>,
+) -> Result<(), AllocError>
+    ensures { OnOk result
+        (found.new.items ≡ found.old.items ++ differing.fallen_from since rows.now) }
+{
+    let mut latest = since;
+    for row in rows {
+        write_fallen(latest, row, found)?;
+        latest = later_start(latest, row);
+    }
+    Ok(())
+}
+
 /// Reports the rows of a run of polls (`RUN` consecutive numbers) that have values out of range.
 fn append_values(rows: &RunRows, found: &mut Vec<Difference>) -> Result<(), AllocError>
     ensures { OnOk result (found.new.items ≡ found.old.items ++ differing.values_of rows.now) }
@@ -245,39 +303,45 @@ fn append_values(rows: &RunRows, found: &mut Vec<Difference>) -> Result<(), Allo
 }
 
 /// Returns the discrepancies that an audit reports for a run of polls (`RUN` consecutive numbers).
-/// `last` is the greatest number of all polls.
+/// `last` is the greatest number of all polls. `since` is the latest start of the polls of earlier
+/// runs.
 pub(crate) fn run_differences(
     alloc: Global,
     run: u64,
     last: u64,
+    since: u64,
     rows: &RunRows,
 ) -> Result<Vec<Difference>, AllocError>
     requires run { run < 2 ^ 50 }
     requires last { last ≤ greatest_place }
-    ensures { IfOk result (λ found. found.items ≡ differing.differences_of_run run last rows.now) }
+    ensures { IfOk result
+        (λ found. found.items ≡ differing.differences_of_run run last since rows.now) }
 {
     let mut found = Vec::new(alloc);
     append_values(rows, &mut found)?;
-    write_turns(run, last, rows, &mut found)?;
+    write_turns(run, last, since, rows, &mut found)?;
     Ok(found)
 }
 
-/// Reports the missing poll numbers of a run of polls (`RUN` consecutive numbers), the numbers out
-/// of order, and the outcomes earlier than their polls.
+/// Reports the discrepancies in the order of a run of polls (`RUN` consecutive numbers). They are
+/// missing numbers, numbers out of order, polls that started before earlier polls, and outcomes
+/// earlier than their polls.
 fn write_turns(
     run: u64,
     last: u64,
+    since: u64,
     rows: &RunRows,
     found: &mut Vec<Difference>,
 ) -> Result<(), AllocError>
     requires run { run < 2 ^ 50 }
     requires last { last ≤ greatest_place }
     ensures { OnOk result (found.new.items
-        ≡ found.old.items ++ differing.turns_of run last rows.now) }
+        ≡ found.old.items ++ differing.turns_of run last since rows.now) }
 {
     let first = run * RUN + 1;
     let end = last.min((run + 1) * RUN);
     write_order(first, end, rows.polls.as_slice(), found)?;
+    write_each_fallen(since, rows.polls.as_slice(), found)?;
     write_each_early(
         first,
         rows.polls.as_slice(),

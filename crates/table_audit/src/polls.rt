@@ -10,19 +10,22 @@ ghost use Rattle.table_audit.specs.Polls as said;
 use crate::differences::{Difference, MOST, PollFault};
 use crate::findings::{Finding, Findings};
 use crate::meters::audit_meters;
-use crate::poll_differences::run_differences;
+use crate::names::audit_names;
+use crate::poll_differences::{latest_start, run_differences};
 use crate::poll_queries::{last_poll, run_rows};
 use crate::poll_rows::{RUN, RunRows};
 use sqlite::{Alter, Connection, Error, ErrorCode};
 use std::alloc::{AllocError, Global};
 use store_tables::{GREATEST_PLACE, RowFault, first_whole};
 
-/// Reports the discrepancies in the rows of a run of polls (`RUN` consecutive numbers). Returns
-/// whether the audit continues with the next run.
+/// Reports the discrepancies in the rows of a run of polls (`RUN` consecutive numbers). `since` is
+/// the latest start of the polls of earlier runs. Returns whether the audit continues with the next
+/// run.
 fn audit_rows_of(
     alloc: Global,
     run: u64,
     last: u64,
+    since: u64,
     rows: &RunRows,
     findings: &mut Findings,
 ) -> Result<bool, AllocError>
@@ -30,22 +33,24 @@ fn audit_rows_of(
     requires last { last ≤ greatest_place }
     requires few { length findings.old.first.items ≤ MOST }
     ensures reported { OnOk result
-        (IsReported (differences_of_run run last rows.now) findings.old findings.new) }
+        (IsReported (differences_of_run run last since rows.now) findings.old findings.new) }
     ensures stops { IfOk result (λ goes_on. goes_on ≡ false → said.Stops rows.now findings.new) }
     ensures few { OnOk result (length findings.new.first.items ≤ MOST) }
 {
-    let found = run_differences(alloc, run, last, rows)?;
+    let found = run_differences(alloc, run, last, since, rows)?;
     findings.append_all(found.as_slice())?;
     Ok(rows.polls.len() > 0 || findings.first.len() < MOST)
 }
 
-/// Queries a run of polls (`RUN` consecutive numbers) and reports its discrepancies. Returns
-/// whether the audit continues with the next run.
+/// Queries a run of polls (`RUN` consecutive numbers) and reports its discrepancies. `since` is the
+/// latest start of the polls of earlier runs, and afterwards also of this run. Returns whether the
+/// audit continues with the next run.
 fn audit_run<S: Alter>(
     alloc: Global,
     conn: &mut Connection<S>,
     run: u64,
     last: u64,
+    since: &mut u64,
     findings: &mut Findings,
 ) -> Result<bool, RowFault>
     requires mode { conn.old.in_transaction ≡ false }
@@ -53,11 +58,13 @@ fn audit_run<S: Alter>(
     requires last { last ≤ greatest_place }
     requires few { length findings.old.first.items ≤ MOST }
     ensures finds { Finds S.Store conn.old conn.new result
-        (said.ReportsRun run last findings.old findings.new) }
+        (said.ReportsRun run last since.old since.new findings.old findings.new) }
     ensures few { OnOk result (length findings.new.first.items ≤ MOST) }
 {
     let rows = run_rows(conn, run)?;
-    match audit_rows_of(alloc, run, last, &rows, findings) {
+    let before = *since;
+    *since = latest_start(before, &rows.polls);
+    match audit_rows_of(alloc, run, last, before, &rows, findings) {
         Ok(goes_on) => Ok(goes_on),
         Err(_) => Err(RowFault::Sql(Error::SqliteFailure(ErrorCode::OutOfMemory))),
     }
@@ -80,8 +87,9 @@ fn audit_runs<S: Alter>(
     ensures few { OnOk result (length findings.new.first.items ≤ MOST) }
 {
     let runs = last.div_ceil(RUN);
+    let mut since = 0;
     for run in 0..runs {
-        let goes_on = audit_run(alloc, conn, run, last, findings)?;
+        let goes_on = audit_run(alloc, conn, run, last, &mut since, findings)?;
         if !goes_on {
             return Ok(());
         }
@@ -131,15 +139,18 @@ fn append_last(findings: &mut Findings) -> Result<(), RowFault>
     }
 }
 
-/// Audits all tables. Each meter must have the rows of a history that the rules accept. No poll may
-/// be missing, or end before its start. Returns the discrepancies, and how many rows were read.
-/// Memory holds all rows of `installations`, and the rows of one meter or of `RUN` polls at a time.
+/// Audits all tables. Each meter must have the rows of a history that the rules accept, and the
+/// meters of a register must follow each other. Devices, points, registers and meters must have
+/// valid names. No poll may be missing, start before an earlier poll, or end before its start.
+/// Returns the discrepancies, and how many rows were read. Memory holds all rows of
+/// `installations`, all names, and the rows of one meter or of `RUN` polls at a time.
 pub fn audit_tables<S: Alter>(alloc: Global, conn: &mut Connection<S>) -> Result<Findings, RowFault>
     requires mode { conn.old.in_transaction ≡ false }
     ensures finds { Finds S.Store conn.old conn.new result said.ReportsTables }
     ensures few { IfOk result (λ findings. length findings.first.items ≤ MOST) }
 {
     let mut findings = audit_meters(alloc, conn)?;
+    audit_names(alloc, conn, &mut findings)?;
     audit_polls(alloc, conn, &mut findings)?;
     Ok(findings)
 }

@@ -59,7 +59,7 @@ fn ask_voids<S: Alter>(conn: &mut Connection<S>, meter: &str) -> Result<Vec<Row>
     )
 }
 
-/// Queries the energy of a meter by quarter hours, in ascending order.
+/// Queries the energy of a meter by quarter hours, in ascending order of their starts.
 fn ask_intervals<S: Alter>(conn: &mut Connection<S>, meter: &str) -> Result<Vec<Row>, Error>
     ensures asks { Asks S.Store conn.old conn.new }
     ensures shows { ReportsRows S.Store conn.old conn.new showing.intervals_tree itself result

@@ -1,16 +1,20 @@
 //! Parses the rows that the tables have for a meter.
-ghost use Rattle.std.specs.Prelude.{◌≡◌, ◌↔◌, ◌<◌, ◌^◌, ◌∷◌, [], All, IfOk, IfErr, IfSome};
+ghost use Rattle.std.specs.Prelude.{◌≡◌, ◌↔◌, ◌<◌, ◌^◌, ◌∷◌, [], All, IfOk, IfSome};
+ghost use Rattle.std.specs.Prelude.{IsSomeAnd, MatchOption, Some, None, true};
+ghost use Rattle.office_events.specs.Names.{is_name};
 ghost use Rattle.sqlite.specs.Order.{column};
 ghost use Rattle.store_tables.specs.Columns.{or_damaged};
-ghost use Rattle.store_tables.specs.Failing.{want_of_memory};
 ghost use Rattle.store_tables.specs.Meters.Rows.{flag_in, last_in, installation_in};
 ghost use Rattle.table_audit.specs.Reading as values;
 
 use energy_core::{MAX_CEILING, MAX_RANGE, MAX_SHOWN, MAX_TOTAL, MIN_RANGE};
 use interval_core::Share;
 use meter_journal::audit::{RowKind, TableRow};
-use sqlite::{Error, ErrorCode, Row};
+use office_events::Name;
+use sqlite::Row;
+use sqlite::types::ValueRef;
 use std::alloc::{AllocError, Global};
+use std::str::from_utf8;
 use store_tables::{
     GREATEST_PLACE, InstallationRow, LATEST_MOMENT, LastRow, RowFault, scale, whole,
 };
@@ -79,8 +83,8 @@ fn share(row: &Row) -> Result<Share, RowFault>
     Ok(Share { start, mwh })
 }
 
-/// Parses the range of a meter's counter. Returns None unless the meter has exactly one valid
-/// range.
+/// Parses the range of a meter's counter. Returns None unless there is exactly one result row, with
+/// a range that the program allows.
 pub fn range(rows: &[Row]) -> Option<u64>
     ensures { (n : _) → (values.all_in values.range_in rows.now ≡ Ok (n ∷ [])) ↔ (result ≡ Some n) }
 {
@@ -93,7 +97,8 @@ pub fn range(rows: &[Row]) -> Option<u64>
     }
 }
 
-/// Parses a meter's entries in order. Returns None if a result row is invalid.
+/// Parses a meter's entries in the order of the result rows. Returns None if a result row has a
+/// value out of its range.
 pub fn entries(
     alloc: Global,
     rows: &[Row],
@@ -113,8 +118,8 @@ pub fn entries(
     Ok(Some(found))
 }
 
-/// Parses the indices of a meter's voided (cancelled) entries. Returns None if a result row is
-/// invalid.
+/// Parses the indices of a meter's voided (cancelled) entries. Returns None if a result row has an
+/// index out of its range.
 pub fn places(alloc: Global, rows: &[Row]) -> Result<Option<Vec<u64>>, AllocError>
     ensures { IfOk result (values.AreRead values.place_in rows.now) }
 {
@@ -128,7 +133,8 @@ pub fn places(alloc: Global, rows: &[Row]) -> Result<Option<Vec<u64>>, AllocErro
     Ok(Some(found))
 }
 
-/// Parses the energies of quarter hours from result rows. Returns None if a row is invalid.
+/// Parses the energies of quarter hours from result rows. Returns None if a row has a value out of
+/// its range.
 pub(crate) fn shares(alloc: Global, rows: &[Row]) -> Result<Option<Vec<Share>>, AllocError>
     ensures { IfOk result (values.AreRead values.share_in rows.now) }
 {
@@ -184,17 +190,28 @@ pub fn installation(row: &Row) -> Result<InstallationRow, RowFault>
     })
 }
 
-/// Reads the meter's name in a row of `installations`. Returns None if the column has no UTF-8
-/// text.
-pub(crate) fn name(row: &Row) -> Result<Option<String>, RowFault>
-    ensures text { IfOk result (values.IsTextIn (column row.now 1)) }
-    ensures fault { IfErr result (λ fault. fault ≡ RowFault.Sql want_of_memory) }
+/// Reads the meter's name in a row of `installations`. Returns None if the column has no valid
+/// name.
+pub(crate) fn meter_name(row: &Row) -> Option<&str>
+    ensures { MatchOption result (values.name_in (column row.now 1) ≡ None)
+        (λ name. values.name_in (column row.now 1) ≡ Some name.now) }
 {
-    match row.get::<String>(1) {
-        Ok(name) => Ok(Some(name)),
-        Err(Error::SqliteFailure(ErrorCode::OutOfMemory)) => {
-            Err(RowFault::Sql(Error::SqliteFailure(ErrorCode::OutOfMemory)))
-        }
-        Err(_) => Ok(None),
+    match row.get_ref(1) {
+        Ok(ValueRef::Text(text)) => match Name::new(text) {
+            Some(_) => valid_text(text),
+            None => None,
+        },
+        _ => None,
+    }
+}
+
+/// Returns the bytes of a valid name as a string. (Every valid name is ASCII text.)
+fn valid_text(text: &[u8]) -> Option<&str>
+    requires { is_name text.now ≡ true }
+    ensures { IsSomeAnd result (λ string. string.now ≡ text.now) }
+{
+    match from_utf8(text) {
+        Ok(string) => Some(string),
+        Err(_) => None,
     }
 }

@@ -20,8 +20,8 @@ use sqlite_schema::schema::{Index, Schema};
 /// The first difference between the schema of a file and the schema that the program creates.
 #[derive(Clone, Copy, Debug, PartialEq, Eq)]
 pub enum SchemaFault {
-    /// The table `meta` differs. Each of the next faults, up to `Voids`, means that another table
-    /// differs.
+    /// The table `meta` of a file differs from the program's definition. Each of the next faults,
+    /// up to `Voids`, means that another table differs.
     Meta,
     Devices,
     Points,
@@ -41,7 +41,8 @@ pub enum SchemaFault {
 }
 
 impl SchemaFault {
-    /// Returns the name of the table that differs, or `None` if another object differs.
+    /// Returns the name of the table that differs from the program's definition, or `None` if
+    /// another object differs.
     pub fn table(self) -> Option<&'static str> {
         match self {
             SchemaFault::Meta => Some("meta"),

@@ -1,47 +1,21 @@
 //! Writes the printed lines of an audit.
-ghost use Rattle.std.specs.Prelude.{◌≡◌, ◌++◌, OnOk, codes, decimal};
-ghost use Rattle.std.specs.Fmt.{signed_decimal};
+ghost use Rattle.std.specs.Prelude.{◌≡◌, OnOk, codes};
 ghost use Rattle.table_audit.specs.Texts as say;
 
-use crate::differences::{Difference, PollFault, Table};
+use crate::differences::{Difference, NamedTable, PollFault, Table};
 use crate::findings::{Counts, Finding, Findings};
+use crate::values::{
+    append_bytes, write_count, write_energy, write_moment, write_number, write_scale, write_word,
+};
 use energy_core::Last;
-use itoa::Buffer;
 use meter_journal::audit::{IntervalFault, RowFault};
+use office_events::Name;
 use std::alloc::AllocError;
 
-// Functions that append parts of a printed line to a text. If memory runs out, the text is
-// incomplete.
+// Functions that append parts of a line that an audit prints to a text. If memory runs out, the
+// text is incomplete.
 
-fn append_bytes(text: &mut Vec<u8>, bytes: &[u8]) -> Result<(), AllocError>
-    ensures { OnOk result (text.new.items ≡ text.old.items ++ bytes.now) }
-{
-    text.extend_from_slice(bytes)
-}
-
-fn write_word(text: &mut Vec<u8>, before: &[u8], word: &[u8]) -> Result<(), AllocError>
-    ensures { OnOk result (text.new.items ≡ text.old.items ++ before.now ++ word.now) }
-{
-    append_bytes(text, before)?;
-    append_bytes(text, word)
-}
-
-fn write_number(text: &mut Vec<u8>, before: &[u8], number: u64) -> Result<(), AllocError>
-    ensures { OnOk result (text.new.items ≡ text.old.items ++ before.now ++ decimal number) }
-{
-    append_bytes(text, before)?;
-    let mut buffer = Buffer::new();
-    append_bytes(text, buffer.format(number).as_bytes())
-}
-
-fn write_scale(text: &mut Vec<u8>, before: &[u8], sf: i16) -> Result<(), AllocError>
-    ensures { OnOk result (text.new.items ≡ text.old.items ++ before.now ++ signed_decimal sf) }
-{
-    let mut buffer = Buffer::new();
-    write_word(text, before, buffer.format(sf).as_bytes())
-}
-
-fn table_name(table: Table) -> &'static [u8]
+pub(crate) fn table_name(table: Table) -> &'static [u8]
     ensures { result.now ≡ say.table_name table }
 {
     match table {
@@ -55,7 +29,7 @@ fn table_name(table: Table) -> &'static [u8]
 
 /// Appends the reason for which the rules for entries reject a meter entry, given the earlier
 /// entries.
-fn write_cause(text: &mut Vec<u8>, cause: RowFault) -> Result<(), AllocError>
+pub(crate) fn write_cause(text: &mut Vec<u8>, cause: RowFault) -> Result<(), AllocError>
     ensures { OnOk result (text.new.items ≡ say.with_cause text.old.items cause) }
 {
     match cause {
@@ -79,32 +53,46 @@ fn write_cause(text: &mut Vec<u8>, cause: RowFault) -> Result<(), AllocError>
     }
 }
 
+/// Appends the prefix `before`, then the stored energy and the energy that follows from the meter's
+/// entries, both in mWh.
+fn write_energies(
+    text: &mut Vec<u8>,
+    before: &[u8],
+    has: u64,
+    wanted: u64,
+) -> Result<(), AllocError>
+    ensures { OnOk result
+        (text.new.items ≡ say.with_energies text.old.items before.now has wanted) }
+{
+    write_energy(text, before, has)?;
+    write_energy(text, b", entries give ", wanted)
+}
+
 fn append_interval(text: &mut Vec<u8>, fault: IntervalFault) -> Result<(), AllocError>
     ensures { OnOk result (text.new.items ≡ say.with_interval text.old.items fault) }
 {
     match fault {
         IntervalFault::Missing { start, wanted } => {
-            write_number(text, b"interval ", start)?;
-            write_number(text, b" has no row, entries give ", wanted)
+            write_moment(text, b"interval ", start)?;
+            write_energy(text, b" has no row, entries give ", wanted)
         }
         IntervalFault::Unwanted { start, has } => {
-            write_number(text, b"interval ", start)?;
-            write_number(text, b" has ", has)?;
+            write_moment(text, b"interval ", start)?;
+            write_energy(text, b" has ", has)?;
             append_bytes(text, b", entries give none")
         }
         IntervalFault::Differs { start, has, wanted } => {
-            write_number(text, b"interval ", start)?;
-            write_number(text, b" has ", has)?;
-            write_number(text, b", entries give ", wanted)
+            write_moment(text, b"interval ", start)?;
+            write_energies(text, b" has ", has, wanted)
         }
     }
 }
 
-/// Appends the prefix `before`, then a counter's timestamp, raw value and scale factor.
+/// Appends to a text the prefix `before`, then a counter's timestamp, raw value and scale factor.
 fn write_counter(text: &mut Vec<u8>, before: &[u8], last: Last) -> Result<(), AllocError>
     ensures { OnOk result (text.new.items ≡ say.with_stand text.old.items before.now last) }
 {
-    write_number(text, before, last.at)?;
+    write_moment(text, before, last.at)?;
     write_number(text, b" ", u64::from(last.raw))?;
     write_scale(text, b" ", last.sf)
 }
@@ -136,6 +124,7 @@ fn append_poll(text: &mut Vec<u8>, poll: u64, fault: PollFault) -> Result<(), Al
         PollFault::EndOutOfRange => append_bytes(text, b" outcome has a value that none may have"),
         PollFault::OutOfOrder => append_bytes(text, b" is out of order"),
         PollFault::EndedBefore => append_bytes(text, b" outcome comes before the poll"),
+        PollFault::StartedBefore => append_bytes(text, b" starts before an earlier poll"),
     }
 }
 
@@ -151,6 +140,32 @@ fn write_missing(text: &mut Vec<u8>, first: u64, last: u64) -> Result<(), AllocE
     append_bytes(text, b" are missing")
 }
 
+fn unnamed_text(table: NamedTable) -> &'static [u8]
+    ensures { result.now ≡ say.unnamed_text table }
+{
+    match table {
+        NamedTable::Installations => b" of installations names no meter",
+        NamedTable::Devices => b" of devices names no device",
+        NamedTable::Points => b" of points names no point",
+        NamedTable::Registers => b" of registers names no register",
+    }
+}
+
+fn write_overlap(
+    text: &mut Vec<u8>,
+    register: &Name,
+    earlier: &Name,
+    later: &Name,
+) -> Result<(), AllocError>
+    ensures { OnOk result (text.new.items
+        ≡ say.with_overlap text.old.items register.now earlier.now later.now) }
+{
+    write_word(text, b"register ", register.as_bytes())?;
+    write_word(text, b": meters ", earlier.as_bytes())?;
+    write_word(text, b" and ", later.as_bytes())?;
+    append_bytes(text, b" overlap")
+}
+
 fn write_difference(text: &mut Vec<u8>, difference: Difference) -> Result<(), AllocError>
     ensures { OnOk result (text.new.items ≡ say.with_difference text.old.items difference) }
 {
@@ -159,9 +174,9 @@ fn write_difference(text: &mut Vec<u8>, difference: Difference) -> Result<(), Al
             write_word(text, b"has a row in ", table_name(table))?;
             append_bytes(text, b" with a value that none may have")
         }
-        Difference::Unnamed { place } => {
-            write_number(text, b"row ", place)?;
-            append_bytes(text, b" of installations names no meter")
+        Difference::Unnamed { table, row } => {
+            write_number(text, b"row ", row)?;
+            append_bytes(text, unnamed_text(table))
         }
         Difference::Installation { has, wanted } => {
             write_number(text, b"place has ", has)?;
@@ -179,13 +194,15 @@ fn write_difference(text: &mut Vec<u8>, difference: Difference) -> Result<(), Al
         }
         Difference::Interval(fault) => append_interval(text, fault),
         Difference::Last { has, wanted } => write_latest(text, has, wanted),
-        Difference::Total { has, wanted } => {
-            write_number(text, b"total has ", has)?;
-            write_number(text, b", entries give ", wanted)
-        }
+        Difference::Total { has, wanted } => write_energies(text, b"total has ", has, wanted),
         Difference::Ended { wanted } => write_ended(text, wanted),
         Difference::NoPolls { first, last } => write_missing(text, first, last),
         Difference::Poll { poll, fault } => append_poll(text, poll, fault),
+        Difference::Overlap {
+            register,
+            earlier,
+            later,
+        } => write_overlap(text, &register, &earlier, &later),
     }
 }
 
@@ -231,11 +248,18 @@ fn write_more(text: &mut Vec<u8>, more: u64) -> Result<(), AllocError>
 fn write_counts(text: &mut Vec<u8>, counts: &Counts) -> Result<(), AllocError>
     ensures { OnOk result (text.new.items ≡ say.with_counts text.old.items counts.now) }
 {
-    write_number(text, b"fine: ", counts.meters)?;
-    write_number(text, b" meters, ", counts.entries)?;
-    write_number(text, b" entries, ", counts.intervals)?;
-    write_number(text, b" intervals, ", counts.polls)?;
-    append_bytes(text, b" polls\n")
+    write_count(text, b"fine: ", counts.meters, b"meter", b"meters")?;
+    write_count(text, b", ", counts.entries, b"entry", b"entries")?;
+    write_count(text, b", ", counts.intervals, b"interval", b"intervals")?;
+    write_count(text, b", ", counts.polls, b"poll", b"polls")?;
+    append_bytes(text, b"\n")
+}
+
+fn write_total(text: &mut Vec<u8>, all: u64) -> Result<(), AllocError>
+    ensures { OnOk result (text.new.items ≡ say.with_total text.old.items all) }
+{
+    write_count(text, b"", all, b"difference", b"differences")?;
+    append_bytes(text, b"\n")
 }
 
 fn append_end(text: &mut Vec<u8>, found: &Findings) -> Result<(), AllocError>
@@ -245,8 +269,7 @@ fn append_end(text: &mut Vec<u8>, found: &Findings) -> Result<(), AllocError>
         return write_counts(text, &found.counts);
     }
     let all = (found.first.len() as u64).saturating_add(found.more);
-    write_number(text, b"", all)?;
-    append_bytes(text, b" differences\n")
+    write_total(text, all)
 }
 
 /// Appends the printed text of an audit: one line for each stored discrepancy, the number of

@@ -1,5 +1,5 @@
--- Lemmas on the list of a database file's meters, a list that is built row by row from the table
--- `installations`.
+-- Lemmas that building the list of a database file's meters row by row from the table
+-- `installations` appends the meter of each row.
 use Rattle.std.proofs.Common.{◌≡◌, ℕ, ◌+◌, ◌<◌, List, [], ◌∷◌, ◌++◌, take, length, get_or, drop, Some, sym, ap, subst, ◌∙◌, arith}
 use Rattle.std.proofs.lemmas.List.{take_more}
 use Rattle.meter_journal.specs.declared.audit.rows.TableRow.{TableRow}

@@ -1,5 +1,5 @@
--- Lemmas on parsing consecutive `void` lines and `meter` lines in the text of a seal (digests of
--- earlier records).
+-- Lemmas on parsing consecutive `void` lines (of cancelled entries) and `meter` lines in the text
+-- of a seal (digests of earlier records).
 use Rattle.std.proofs.Common.{◌≡◌, ℕ, ◌<◌, ◌^◌, true, List, [], ◌∷◌, ◌++◌, refl, sym, ap, subst, ◌∙◌, append_assoc}
 use Rattle.std.specs.Prelude.{codes, decimal, Option, Some, None, IsSomeAnd, IfSome}
 use Rattle.std.specs.List.{flat_map, AllByRecursion}
@@ -11,10 +11,11 @@ use Rattle.table_seals.specs.Tables.{is_word}
 use Rattle.table_seals.specs.Texts.{meter_line, meter_text, void_line}
 use Rattle.table_seals.proofs.Opened.{void_opened, no_void_first}
 
--- Lemmas on consecutive `void` lines in the text of a seal, which has digests of a file's records.
+-- Lemmas on consecutive `void` lines (of cancelled entries) in the text of a seal, which has
+-- digests of a file's records.
 
--- If a text begins with the `void` lines of several entries, its first line is that of the first
--- entry. The other `void` lines follow.
+-- If a text begins with the `void` lines of several cancelled entries, the first line of the text
+-- is that of the first entry. The other `void` lines follow.
 void_first : (meter : List ℕ) (p : ℕ) (ps rest text : List ℕ) → AreVoids meter (p ∷ ps) rest text
     → text ≡ codes "void " ++ (meter ++ 32 ∷ (decimal p ++ 10 ∷ (flat_map (void_line meter) ps ++ rest)))
 void_first meter p ps rest text h =
@@ -64,8 +65,8 @@ next_void meter after rest text word following number follows reads is numbers h
       record { word = h.word; fit = all.1; ends = h.ends; is = two.1 },
     )
 
--- If the first unread index is moved to the end of the parsed indices, then the concatenation of
--- both lists of indices is unchanged.
+-- Suppose that the next unparsed index of a cancelled entry moves to the end of the parsed indices.
+-- Then the concatenation of the parsed and the unparsed indices is unchanged.
 pub places_so_far : (places next after ps all : List ℕ) (number : ℕ) → next ≡ places ++ number ∷ [] → after ≡ number ∷ ps → places ++ after ≡ all
     → next ++ ps ≡ all
 places_so_far places next after ps all number put is so_far =
@@ -119,7 +120,8 @@ pub seals_so_far : (seals next after ss all : List Sealed) (seal : Sealed) → n
 seals_so_far seals next after ss all seal put is so_far =
     ap (λ (xs : List Sealed). xs ++ ss) put ∙ append_assoc seals (seal ∷ []) ss ∙ ap (λ (xs : List Sealed). seals ++ xs) (sym is) ∙ so_far
 
--- Lemmas on results of a parser that are `Some` and have a property.
+-- Lemmas on optional results of a parser: a result that is `Some` with a property is not `None`,
+-- and the property is true of its value.
 
 pub none_some : {A : Type 0} (P : A → Type 0) (o : Option A) → o ≡ None → IsSomeAnd o P → ⊥
 none_some P o is h = subst (λ q. IsSomeAnd q P) is h

@@ -1,5 +1,5 @@
--- Lemmas on parsing the `polls` line and consecutive `pending` lines in the text of a seal (digests
--- of earlier records).
+-- Lemmas on parsing the `polls` line and consecutive `pending` lines (of polls without an outcome)
+-- in the text of a seal (digests of earlier records).
 use Rattle.std.proofs.Common.{◌≡◌, ℕ, ◌<◌, ◌^◌, List, [], ◌∷◌, ◌++◌, refl, sym, ap, ◌∙◌, append_assoc, arith}
 use Rattle.std.specs.Prelude.{codes, decimal}
 use Rattle.std.specs.List.{flat_map}
@@ -20,8 +20,8 @@ polls_opened s rest = polls_pieces (decimal s.count) (encode_lower s.digest) res
 pending_pieces : (a rest : List ℕ) → (codes "pending " ++ a ++ codes "\n") ++ rest ≡ codes "pending " ++ (a ++ 10 ∷ rest)
 pending_pieces a rest = simp append_assoc
 
--- If a text begins with the `pending` lines of several polls, its first line is that of the first
--- poll. The other `pending` lines follow.
+-- If a text begins with the `pending` lines of several polls without an outcome, the first line of
+-- the text is that of the first poll. The other `pending` lines follow.
 pending_first : (p : ℕ) (ps rest text : List ℕ) → ArePending (p ∷ ps) rest text
     → text ≡ codes "pending " ++ (decimal p ++ 10 ∷ (flat_map pending_line ps ++ rest))
 pending_first p ps rest text h =
@@ -44,7 +44,8 @@ next_pending (p ∷ ps) rest text number follows reads begins h =
       record { fit = h.fit.1; ends = h.ends; is = one.1 },
     )
 
--- Lemmas on the `polls` line in the text of a seal, and on the `pending` lines after it.
+-- Lemmas that the text of the polls' seal (digests of polls) begins with the `polls` line, which
+-- the `pending` lines (of polls without an outcome) follow.
 
 pub polls_first : (s : SealedPolls) (rest text : List ℕ) → ArePolls s rest text → text ≡ polls_line s ++ (flat_map pending_line s.pending ++ rest)
 polls_first s rest text h = h.is ∙ append_assoc (polls_line s) (flat_map pending_line s.pending) rest

@@ -22,8 +22,8 @@ use Rattle.table_seals.specs.Tables.{HasTerms, TermsAreRead}
 use Rattle.table_seals.specs.declared.tables.Terms.{Terms}
 use Rattle.table_seals.proofs.Read.{same_terms, terms_there}
 
--- Lemmas on equal terms of meters: equal names, accounting registers (energy counters) and maximum
--- powers.
+-- Lemmas that the terms of two meters compare as equal if and only if their names, accounting
+-- registers (energy counters) and maximum powers are equal.
 
 is_equal : (o : Ordering) → is_eq o ≡ true → o ≡ Equal
 is_equal Less h = absurd (cc h)
@@ -72,7 +72,8 @@ order_of_same a b same =
     (both_equal registers ceilings (tied_bytes _ _ same.register) (tied_numbers _ _ same.ceiling)) in
     ap is_eq all
 
--- Lemmas on adding a meter's terms (name, register, maximum power) to the ordered set.
+-- Lemmas: if a meter's terms (name, register, maximum power) are added to the ordered set of all
+-- meters' terms, the new set has the old terms and these terms.
 
 either_true : (b c : Bool) → cond b true c ≡ true → (b ≡ true) ⊎ (c ≡ true)
 either_true true c h = inl refl
@@ -96,7 +97,8 @@ adds_terms terms old new put other = (
   ]),
 )
 
--- Lemmas on adding the terms (name, register, maximum power) of one more row of `installations`.
+-- Lemmas on adding the terms (name, register, maximum power) of one more row of `installations` to
+-- the ordered set of the earlier rows' terms.
 
 any_more : {X : Type 0} (P : X → Type 0) (xs : List X) (y : X) → Any P xs → Any P (xs ++ y ∷ [])
 any_more P xs y h = (

@@ -1,4 +1,5 @@
--- Lemmas on the check that successive database files continue each other.
+-- Lemmas on the check that each database file continues the meters of the files before it: its
+-- printed lines, and the limit of a meter's total energy over all files.
 use Rattle.std.proofs.Common.{◌≡◌, ℕ, ◌+◌, ◌-◌, ◌<◌, ◌≤◌, ◌==◌, Bool, true, false, not, ◌&&◌, if◌then◌else◌, List, [], ◌∷◌, ◌++◌, map, take, drop, length, get_or, Option, Some, None, Vec, refl, sym, ap, ◌∙◌, append_assoc, eq-eqb}
 use Rattle.std.specs.Prelude.{string_bytes, bytes_eq}
 use Rattle.std.specs.List.{flat_map}
@@ -17,15 +18,16 @@ use Rattle.table_seals.specs.JoinLaws.{MeterGoesOn, JoinedMetersGoOn}
 use Rattle.table_audit.specs.declared.differences.TheConstants.{MOST}
 use Rattle.table_seals.specs.JoinTexts.{all_lines, join_line, joined_text, lines_of, more_lines, text_in}
 
--- Lemmas on the printed lines of the check that successive database files continue each other.
+-- Lemmas that the check that each database file continues the meters of the files before it appends
+-- the printed lines of all differences, in order.
 
 pub lines_of_each : {X : Type 0} (f : X → List Join) (xs : List X) → flat_map (λ x. map join_line (f x)) xs ≡ map join_line (flat_map f xs)
 lines_of_each f [] = refl
 lines_of_each f (x ∷ xs) =
     ap (λ ls. map join_line (f x) ++ ls) (lines_of_each f xs) ∙ sym (map-append join_line (f x) (flat_map f xs))
 
--- Appending the printed lines of three lists of differences one after another has the same result
--- as appending the printed lines of the concatenated list.
+-- Appending the printed lines of three lists of differences between files, one after another, has
+-- the same result as appending the printed lines of the concatenated list.
 pub all_reported : (old one two three : List (List ℕ)) (a b c : List Join) → one ≡ old ++ map join_line a → two ≡ one ++ map join_line b
     → three ≡ two ++ map join_line c → three ≡ old ++ map join_line (a ++ b ++ c)
 all_reported old one two three a b c first second third =
@@ -47,8 +49,9 @@ joins_reported known next meters news latest old one two three meters_are news_a
     (third ∙ ap (λ (ms : List FiledMeter). two ++ flat_map (λ o. lines_of (missing_of next o)) ms) latest_are
     ∙ ap (λ ls. two ++ ls) (lines_of_each (missing_of next) (take known.latest known.meters)))
 
--- The printed text of the check consists of the first lines, the number of omitted lines and the
--- last line, in this order.
+-- The printed text of the check that each database file continues the meters of the files before
+-- it. The text consists of the first lines, the number of omitted lines and the last line, in this
+-- order.
 pub lines_put : {Z : Type 0} (lines shown : List (Vec ℕ Z)) (old one two three : List ℕ) (more : ℕ) → shown ≡ take MOST lines
     → more ≡ length lines - MOST → one ≡ old ++ flat_map text_in shown → two ≡ one ++ more_lines more
     → three ≡ two ++ all_lines (length lines) → three ≡ old ++ joined_text lines
@@ -60,7 +63,8 @@ lines_put {Z} lines shown old one two three more shown_are more_is first second 
     let both : two ≡ old ++ f ++ m = second ∙ ap (λ n. one ++ more_lines n) more_is ∙ ap (λ t. t ++ m) put in
     third ∙ ap (λ t. t ++ a) (both ∙ append_assoc old f m) ∙ append_assoc old (f ++ m) a
 
--- Lemmas on the total energy of a meter in several files.
+-- Lemmas on checking, one meter after another, whether the total energy of a meter in several files
+-- is within the limit of one meter's energy.
 
 abbrev stays_by : (name : List ℕ) → List FiledMeter → Option ℕ → Bool
 stays_by name meters left = option_map_or (λ l. stay_within l name meters) left false
@@ -86,8 +90,8 @@ pub goes_to_end : (left most : ℕ) (name : List ℕ) (meters : List FiledMeter)
     → stay_within left name (drop i meters) ≡ stay_within most name meters → true ≡ stay_within most name meters
 goes_to_end left most name meters i le so_far = sym (ap (stay_within left name) (drop_all i meters le)) ∙ so_far
 
--- Lemmas that a meter continues in the next file if and only if the check prints no difference for
--- it.
+-- Lemmas that a meter continues in the next file if and only if the check of this continuation
+-- prints no difference for the meter.
 
 nothing_reported : (known : List FiledMeter) (old new : FiledMeter) (found : Option JoinFault)
     → option_to_list (option_map (λ fault. Differs fault old new) found) ≡ [] → found ≡ None

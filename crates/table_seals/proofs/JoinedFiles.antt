@@ -1,4 +1,5 @@
--- Lemmas on successive database files between which the check reports no difference.
+-- Lemmas on successive database files for which the check that each file continues the meters of
+-- the files before it reports no difference.
 use Rattle.std.proofs.Common.{◌≡◌, ℕ, ◌+◌, ◌-◌, ◌≤◌, Bool, true, false, cond, List, [], ◌∷◌, ◌++◌, length, Some, None, refl, sym, ap, subst, ◌∙◌, inl, inr, arith}
 use Rattle.std.specs.Prelude.{string_bytes, nat_le}
 use Rattle.std.specs.List.{AllByRecursion, filter, find, flat_map}
@@ -17,7 +18,8 @@ no_parts : {X : Type 0} (xs ys : List X) → xs ++ ys ≡ [] → (xs ≡ []) × 
 no_parts [] ys h = (refl, h)
 no_parts (x ∷ xs) ys h = absurd (cc)
 
--- Lemmas on the meters of a list that pass a test.
+-- Lemmas on a search for the first meter of a list that passes a test. The search finds the first
+-- element of the filtered list.
 
 module _ (passes : FiledMeter → Bool) where
   abbrev passing : List FiledMeter → List FiledMeter
@@ -35,7 +37,7 @@ module _ (passes : FiledMeter → Bool) where
         | inr off ↦ cond-false _ _ _ off ∙ first_found meters older old (sym (cond-false _ _ _ off) ∙ h)
       ]
 
-  -- If all meters in a list have a property, then the first meter that passes the test has this
+  -- If all meters in a list have a property, then the first meter that passes a given test has this
   -- property.
   pub first_holds : (P : FiledMeter → Type 0) (meters older : List FiledMeter) (new : FiledMeter) → passing meters ≡ new ∷ older
       → AllByRecursion P meters → P new × (passes new ≡ true)
@@ -49,15 +51,16 @@ module _ (passes : FiledMeter → Bool) where
         | inr off ↦ first_holds P meters older new (sym (cond-false _ _ _ off) ∙ h) all.1
       ]
 
--- If the check of successive files reports no difference for a list of meters, then it reports none
--- for each meter in the list.
+-- Suppose that the check that a file continues the meters of the earlier files reports no
+-- difference for a list of meters. Then it reports none for each meter in the list.
 nothing_of_each : (known meters : List FiledMeter) → flat_map (joins_of known) meters ≡ [] → AllByRecursion (λ new. joins_of known new ≡ []) meters
 nothing_of_each known [] h = tt
 nothing_of_each known (meter ∷ meters) h =
     let parts = no_parts (joins_of known meter) (flat_map (joins_of known) meters) h in
     (parts.0, nothing_of_each known meters parts.1)
 
--- Lemmas on the total energy of a meter in several files.
+-- Lemmas that the total energy of a meter in several files is within the limit of one meter's
+-- energy if the check of this limit succeeds.
 
 same_name : (name : List ℕ) (meter : FiledMeter) → is_meter name meter ≡ true → string_bytes meter.meter ≡ name
 same_name name meter h = (bytes_eq-Decides (string_bytes meter.meter) name).0 h
@@ -97,7 +100,8 @@ energies_stay most name (meter ∷ meters) h =
     ]
 
 -- Suppose that the meters of a given name continue from file to file. If another file has at most
--- one meter of this name, and the check reports no difference for it, the meters still continue.
+-- one meter of this name, and the check that it continues the earlier meters reports no difference,
+-- the meters still continue.
 one_more : (name : List ℕ) (known next : Known) (new old : List FiledMeter) → IsOfMeters next → joins_between known next ≡ []
     → IsOneMeter name known → named name next.meters ≡ new → named name known.meters ≡ old → length new ≤ 1
     → EachGoesOn (new ++ old) × (energy_of (new ++ old) ≤ MAX_TOTAL)
@@ -143,7 +147,7 @@ all_are_one name known (next ∷ later) of nothing one =
     let parts = no_parts (joins_between known next) (joins_of_all (known_with known next) later) nothing in
     all_are_one name (known_with known next) later of.1 parts.1 (next_is_one name known next of.0 parts.0 one)
 
--- Lemmas on the meters of the first database file.
+-- Lemmas on the meters of the first of several database files, which continue no earlier meters.
 
 first_one : (name : List ℕ) (first : Known) (meters : List FiledMeter) → IsOfMeters first → named name first.meters ≡ meters → length meters ≤ 1
     → EachGoesOn meters × (energy_of meters ≤ MAX_TOTAL)

@@ -1,4 +1,5 @@
--- Lemmas on the tables of successive database files between which the check reports no difference.
+-- Lemmas on the tables of successive database files for which the check that each file continues
+-- the meters of the files before it reports no difference.
 use Rattle.std.proofs.Common.{◌≡◌, ◌+◌, List, [], ◌∷◌, ◌++◌, refl, sym, ap, subst, ◌∙◌, arith}
 use Rattle.std.specs.List.{AllByRecursion}
 use Rattle.energy_core.specs.declared.entries.Last.{Last}
@@ -16,7 +17,8 @@ use Rattle.table_seals.specs.Filing.{standing_in}
 use Rattle.table_seals.specs.JoinLaws.{EachGoesOn, FiledMetersAreReported, IsReportedBy, JoinedFilesAreLawful, energy_of, in_file, in_files}
 use Rattle.table_seals.proofs.Read.{same_read}
 
--- Lemmas on the tables of one meter in one database file.
+-- Lemmas that the data read about a meter equal the data in its tables in one database file, if an
+-- audit finds nothing wrong in these tables.
 
 same_head : (a b : TableRow) (rows others : List TableRow) → a ∷ rows ≡ b ∷ others → a ≡ b
 same_head a b rows others h = cc
@@ -70,8 +72,8 @@ reported_more : (old : Tables) (later : List InFile) (new : InFile) → (entry_f
 reported_more old [] new = refl
 reported_more old (next ∷ later) new = reported_more (reported_by_both old next.tables) later new
 
--- States that the files of a meter continue each other, from the oldest file up to the file of
--- `meter`.
+-- States that the rows of one meter continue from each database file in the next, from the oldest
+-- file with this meter up to the file of `meter`.
 record GoesUpTo (tables : FiledMeter → Tables) (meter : FiledMeter) (meters : List FiledMeter) : Type 0 where
   pub first : InFile
   pub later : List InFile

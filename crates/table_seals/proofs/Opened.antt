@@ -1,4 +1,5 @@
--- Lemmas on the first lines of the text of a seal, which has digests of a file's records.
+-- Lemmas on the order of lines in the text of a seal, which has digests of a file's records. The
+-- text begins with a `meter` line, whose `void` lines follow, and the last line is neither.
 use Rattle.std.proofs.Common.{◌≡◌, ℕ, List, [], ◌∷◌, ◌++◌, get_or, ap, append_assoc, arith}
 use Rattle.std.specs.Prelude.{codes, decimal}
 use Rattle.std.specs.List.{flat_map}

@@ -1,5 +1,6 @@
--- Lemmas on the digest of all polls in a file: the seal that the program computes from it, and the
--- comparison of the polls with an earlier seal.
+-- Lemmas on the seal (digest) of all polls in a file. It digests the polls with consecutive numbers
+-- from 1 up to the greatest number. Also lemmas on the comparison of the polls with an earlier
+-- seal.
 use Rattle.std.proofs.Common.{◌≡◌, ◌↔◌, ℕ, ◌≤◌, Bool, false, List, [], Option, Some, None, Result, Ok, Err, unwrap_or, IfOk, IfSome, refl, sym, ap, subst, ◌∙◌, arith}
 use Rattle.sha2.specs.Sha256.{sha256}
 use Rattle.store_tables.specs.Content.{Content}
@@ -15,7 +16,8 @@ use Rattle.store_tables.specs.Columns.{first_in}
 use Rattle.table_audit.specs.Looking.{Finds}
 use Rattle.table_seals.proofs.PollNumbers.{AreNumbered, numbered, all_then}
 
--- Lemmas on the polls up to the greatest poll number in the tables.
+-- Lemmas: reading all polls up to the greatest poll number in the tables gives the required result
+-- (`ReadsUpTo`). This holds whether the query for this number succeeded or failed.
 
 pub reads_runs : (found : Result (Option ℕ) RowFault) (o : Option ℕ) (greatest : ℕ) (content : Content) (polls : Option (List ReadPoll))
     → found ≡ Ok o → greatest ≡ unwrap_or o 0 → ReadsRuns greatest content polls → ReadsUpTo found content polls
@@ -26,7 +28,7 @@ reads_runs found o greatest content polls is n runs =
 pub reads_fault : (found : Result (Option ℕ) RowFault) (e : RowFault) (content : Content) → found ≡ Err e → ReadsUpTo found content None
 reads_fault found e content is = subst (λ (r : Result (Option ℕ) RowFault). ReadsUpTo r content None) (sym is) refl
 
--- Lemmas on the seal (digest) of the polls in the tables.
+-- Lemmas that the digest of all polls in the tables is the seal of these polls.
 
 -- If all polls were read without an error, then they have consecutive numbers from 1.
 read_numbered : (r : Result (Option ℕ) RowFault) (content : Content) (polls : List ReadPoll) → ReadsUpTo r content (Some polls) → AreNumbered 1 polls

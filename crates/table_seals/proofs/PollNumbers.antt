@@ -99,7 +99,8 @@ numbered_after (rows ∷ runs) done polls h is =
 pub numbered : (runs : List RunRows) (polls : List ReadPoll) → polls_of runs ≡ Some polls → AreNumbered 1 polls
 numbered runs polls is = numbered_after runs [] polls tt is
 
--- Lemmas on the text of all polls that were read.
+-- Lemmas that the digested text of polls is the text of all these polls, if no poll is later than
+-- the last sealed poll and no outcome is left out.
 
 pub all_then : (k last : ℕ) (polls : List ReadPoll) → AreNumbered k polls → k + length polls ≤ last + 1 → polls_text_then last [] polls ≡ polls_text polls
 all_then k last [] h le = refl

@@ -17,8 +17,8 @@ one_before : (done : List ReadPoll) (poll : ReadPoll) (more : Option (List ReadP
 one_before done poll None = refl
 one_before done poll (Some more) = ap (λ (ps : List ReadPoll). let o : Option (List ReadPoll) = Some ps in o) (sym (append_assoc done (poll ∷ []) more))
 
--- The state of a loop after the first rows of a run of `RUN` polls. The polls in these rows were
--- read, and their texts were appended.
+-- The state of a loop that digests a run of `RUN` polls, after the first rows. The polls in these
+-- rows were read, and their texts were appended to the digested text.
 pub record RowsSoFar (last : ℕ) (hidden : List ℕ) (first next : ℕ) (all outcomes rows left : List Row) (old new old_pending new_pending : List ℕ) : Type 0 where
   pub done : List ReadPoll
   pub read : polls_in first all outcomes ≡ after done (polls_in next rows left)
@@ -83,7 +83,8 @@ module _ (last : ℕ) (hidden : List ℕ) (first next i : ℕ) (all outcomes lef
             ∙ sym (flat_map-append pending_of before.done (poll ∷ [])));
       }
 
--- Lemmas on the polls and their texts after the last row of a run of `RUN` consecutive polls.
+-- Lemmas on parsing the rows of a run (polls with `RUN` consecutive numbers) after its last poll
+-- row. The result is the polls parsed so far, or None if an outcome without a poll is left.
 
 left_over : (done : List ReadPoll) (next : ℕ) (rows : List Row) → (rows ≡ [] → ⊥) → after done (polls_in next [] rows) ≡ None
 left_over done next [] none = absurd (none refl)

@@ -99,8 +99,8 @@ module _ (last : ℕ) (hidden : List ℕ) (n first : ℕ) (old new : Sha256) (ol
             one.adds.pending ∙ ap (λ (t : List ℕ). t ++ pending_among more) before.pending_are ∙ sym (flat_map-append pending_of before.polls more);
       }
 
--- If the polls of one run (`RUN` consecutive numbers) can't be read, then digesting all runs
--- returns None.
+-- If the polls of one run (`RUN` consecutive numbers) can't be parsed from their rows, then
+-- digesting all runs returns None.
 pub run_unread : (last : ℕ) (hidden : List ℕ) (n first : ℕ) (old new : Sha256) (old_pending new_pending : List ℕ) (content : Content) (greatest : ℕ)
     (found : Option ℕ) → found ≡ None → RunsSoFar last hidden n first old old_pending content
     → LooksAtRun n last hidden first old new old_pending new_pending content found → DigestsRuns greatest last hidden content None

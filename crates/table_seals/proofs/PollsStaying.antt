@@ -12,7 +12,7 @@ use Rattle.table_seals.specs.PollReading.{ReadPoll}
 use Rattle.table_seals.specs.PollTexts.{poll_line, ending_text, unless_pending, poll_text, polls_text, text_then, polls_text_then, unless_ended, pending_of, pending_among}
 use Rattle.table_seals.proofs.PollNumbers.{AreNumbered, numbered, is_up_to, is_beyond}
 
--- Lemmas on the list of pending polls.
+-- Lemmas on which poll numbers the list of pending polls (polls without an outcome) contains.
 
 named_more : (xs ys : List ℕ) (n : ℕ) → is_named (xs ++ ys) n ≡ (is_named xs n || is_named ys n)
 named_more xs ys n = list_any-append (λ v. v == n) xs ys
@@ -53,7 +53,8 @@ abbrev is_pending : Option Ending → Bool
 is_pending None = true
 is_pending (Some ending) = false
 
--- States that the list `pending` contains the poll's number if and only if the poll has no outcome.
+-- States that the list `pending` contains the number of the given poll if and only if this poll has
+-- no outcome.
 abbrev Names : List ℕ → ReadPoll → Type 0
 Names pending poll = is_named pending poll.numbers.number ≡ is_pending poll.ending
 
@@ -92,7 +93,8 @@ names_all k front (poll ∷ polls) h none =
           (names_all (suc k) (front ++ pending_of poll) polls h.1 (front_more k front poll h.0 none)),
     )
 
--- Lemmas on the text that polls had when they were sealed (digested).
+-- Lemmas: if a poll gets an outcome after sealing (digesting), the text that it had before follows
+-- from the poll and the list of polls that were pending at sealing.
 
 ending_stays : (ending now : Option Ending) (b : Bool) → b ≡ is_pending ending → (ending ≡ None) ⊎ (now ≡ ending)
     → ending_text (unless_pending b now) ≡ ending_text ending

@@ -15,7 +15,8 @@ use Rattle.table_seals.specs.Sealing.{IsSealOf}
 use Rattle.table_seals.specs.Tables.{HasTerms, HasRead, is_word}
 use Rattle.table_seals.specs.Texts.{entries_text}
 
--- Lemmas on the name, the accounting register (an energy counter) and the maximum power of a meter.
+-- Lemmas that a row of `installations` has at most one meter name, one accounting register (an
+-- energy counter) and one maximum power.
 
 pub same_text : (m n : List ℕ) → (let v : Value = Text m in v) ≡ Text n → m ≡ n
 same_text m n h = cc
@@ -38,8 +39,8 @@ pub terms_there : (row : Row) (m r : List ℕ) (c : ℕ) (meter register : List 
 terms_there row m r c meter register ceiling h p q s =
     subst (λ x. HasTerms row x register ceiling) p (subst (λ x. HasTerms row m x ceiling) q (subst (λ x. HasTerms row m r x) s h))
 
--- Lemmas on meters that can't be sealed (digested), because a value is invalid or a name is not a
--- word.
+-- Lemmas on meters that can't be sealed (digested), because a value is out of its range or a name
+-- is not a word.
 
 pub true_false : (b : Bool) → b ≡ true → b ≡ false → ⊥
 true_false true h g = absurd (cc)
@@ -57,7 +58,8 @@ register_no_word row rows m r c terms other seal h =
     let same = same_terms row m r c seal.meter seal.register seal.ceiling terms h.terms in
     true_false (is_word r) (ap is_word same.register_is ∙ h.register_word) other
 
--- Lemmas on the counter range, the void (cancellation) records and the entries of a meter.
+-- Lemmas on when a meter matches its seal (a digest of earlier entries), by its counter range, void
+-- (cancellation) records and entries.
 
 same_ranges : (m n : ℕ) → m ∷ [] ≡ n ∷ [] → m ≡ n
 same_ranges m n h = cc

@@ -1,4 +1,5 @@
--- Lemmas on sealing (digesting) and checking the meters of the table `installations` row by row.
+-- Lemmas for a loop over the rows of `installations`: if the meters of the first rows were sealed
+-- (digested) or checked against their seals, this is also true with the next row's meter.
 use Rattle.std.proofs.Common.{◌≡◌, ℕ, ◌+◌, ◌<◌, Bool, true, false, List, [], ◌∷◌, ◌++◌, map, take, length, get_or, Some, refl, sym, ap, subst, ◌∙◌, append_assoc}
 use Rattle.std.proofs.lemmas.List.{take_more, map-append}
 use Rattle.std.proofs.lemmas.Option.{slice_get-get_or}
@@ -28,7 +29,8 @@ next_sealed content rows i row seals next seal lt is put before one =
 pub there_at : (rows : List Row) (i : ℕ) (row : Row) → i < length rows → row ≡ get_or rows i row → slice_get rows i ≡ Some row
 there_at rows i row lt is = slice_get-get_or rows i row lt ∙ ap (λ (r : Row). let o : _ = Some r in o) (sym is)
 
--- Lemmas on checks of meters against their seals (digests of earlier entries).
+-- Lemmas that add the check of one more meter against its seal (a digest of earlier entries) to the
+-- results for the earlier meters.
 
 reported_more : (installed : List Row) (content : Content) (seals : List Sealed) (kept : List Bool) (seal : Sealed) (one : Bool)
     → AreReported installed content seals kept → ReportsKept installed seal content one

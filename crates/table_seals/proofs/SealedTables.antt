@@ -1,4 +1,5 @@
--- Lemmas that combine the results of sealing (digesting) the meters and of sealing the polls.
+-- Lemmas: the seal of a file's tables consists of the seals (digests) of all meters and the seal of
+-- the polls. If one of these is missing, the tables have no seal.
 use Rattle.std.proofs.Common.{◌≡◌, Option, Some, None, Vec, inl, inr, subst}
 use Rattle.store_tables.specs.Content.{Content}
 use Rattle.table_seals.specs.declared.seals.MeterSeal.{MeterSeal}

@@ -24,7 +24,7 @@ use Rattle.meter_journal.specs.Audit.Rows.{scale_after, table_row, opening_row, 
 use Rattle.table_seals.specs.Laws.{entries_by, is_voided_at, FirstEntriesStay, VoidsStay}
 use Rattle.table_seals.specs.Texts.{entry_line, entries_text}
 
--- Lemmas on the scale factor after an entry.
+-- Lemmas on the scale factor of a meter's counter after an entry of the meter.
 
 sf_after : (stands : Bool) → Entry → ℤ → ℤ
 sf_after false e sf = sf
@@ -52,7 +52,7 @@ scale_more meter row rows =
           ∙ sym (ap (λ b. sf_after b row.entry (scale_after meter rows)) is)
     ]
 
--- After a reading, the scale factor is the same as before the reading.
+-- After a reading, the scale factor of the meter's counter is the same as before the reading.
 read_leaves : (k : EntryKind) (e : Entry) (stands : Bool) (sf : ℤ) → is_read k e ≡ true → sf_after stands e sf ≡ sf
 unfolding sf_after
 read_leaves k e false sf read = refl
@@ -71,8 +71,8 @@ rolls_leave last (Change at before new scale) true sf = refl
 
 -- Lemmas on the digested line of an entry, the line that is part of the text that a seal digests.
 
--- The digested line of a meter's entry. For a reading, the line omits the number of counter
--- rollovers.
+-- The line of a meter's entry in the text that a seal digests. For a reading, the line omits the
+-- number of counter rollovers.
 line_of : (sf : ℤ) (place : ℕ) (k : EntryKind) (e : Entry) (stands : Bool) → List ℕ
 line_of sf place k e stands = entry_line (table_row sf (record { place = place; kind = k; entry = e; stands = stands }))
 
@@ -90,8 +90,8 @@ second_true : (a b : Bool) → a && b ≡ true → b ≡ true
 second_true true b h = h
 second_true false b h = absurd (cc)
 
--- States that two entry rows have equal digested lines, and leave the same scale factor for later
--- entries.
+-- States that two entries of a meter have equal lines in the text that a seal digests, and leave
+-- the same scale factor for later entries.
 record ReportsSame (row next : EntryRow) : Type 0 where
   line : (sf : ℤ) → entry_line (table_row sf next) ≡ entry_line (table_row sf row)
   scale : (sf : ℤ) → sf_after next.stands next.entry sf ≡ sf_after row.stands row.entry sf
@@ -115,14 +115,14 @@ rolled_same last row =
           subst (ReportsSame row) (sym made) (record { line = λ sf. refl; scale = λ sf. refl; place = refl; stands = refl })
     ]
 
--- Lemmas on the list of the digested lines of a meter's entries, which begins with the latest
--- entry.
+-- Lemmas that further entries and voids (cancellations) leave the digested lines of a meter's
+-- earlier entries unchanged. The list of these lines begins with the latest entry.
 
 abbrev pub lines_of : Installed → List EntryRow → List (List ℕ)
 lines_of meter rows = map entry_line (later_rows meter rows)
 
--- States that two lists of entry rows have equal digested lines, and leave the same scale factor
--- for later entries.
+-- States that a seal digests equal lines for two lists of entry rows, and that both lists leave the
+-- same scale factor for later entries.
 record SameLines (meter : Installed) (rows next : List EntryRow) : Type 0 where
   lines : lines_of meter next ≡ lines_of meter rows
   scale : scale_after meter next ≡ scale_after meter rows
@@ -184,8 +184,8 @@ more_lines meter (Voided named ∷ more) lines h =
     let may = all_three around.row.stands (is_read around.row.kind around.row.entry) (is_free around.next) h.0.voidable in
     (rest.0, (void_lines meter named (rows_of meter.opening (more ++ lines)) around h.0.there may.1).lines ∙ rest.1)
 
--- Lemmas on the digested text of a meter's entries. The text starts with the opening (the first
--- entry).
+-- Lemmas on the text of a meter's entries that a seal digests: the line of the opening (the first
+-- entry), then the lines of the later entries in their order.
 
 map_reverse : {A B : Type 0} (f : A → B) (xs : List A) → map f (reverse xs) ≡ reverse (map f xs)
 map_reverse f [] = refl
@@ -228,7 +228,8 @@ first_entries meter more lines well h =
     (sym (take-map entry_line (length old) now) ∙ ap (λ n. take n (map entry_line now)) (sym many)
     ∙ ap (λ ls. take (length (map entry_line old)) ls) all.1 ∙ take-append_seam (map entry_line old) all.0)
 
--- Lemmas on void (cancellation) records in a meter's journal (its history).
+-- Lemmas that a voided (cancelled) entry is still voided after lines are added to the meter's
+-- journal (its history).
 
 or_keeps : (a b c d : Bool) → (a ≡ true → c ≡ true) → (b ≡ true → d ≡ true) → (a || b) ≡ true → (c || d) ≡ true
 or_keeps a b true d f g h = refl

@@ -75,7 +75,8 @@ strip_reads before text rest following h is = append_cancel_left before rest fol
 pub not_stripped : (before text following : List ℕ) → FindsTextPrefix before text None → text ≡ before ++ following → ⊥
 not_stripped before text following h is = h following is
 
--- Lemmas on parsing a word, a number or a digest up to its end character.
+-- Lemmas that parsing a word, a number or a digest up to the byte that ends it returns this part
+-- and the text after it.
 
 pub split_reads : (end : ℕ) (text word following : List ℕ) (r : Option (Bor (List ℕ) × Bor (List ℕ))) → IsSplitOnceResult end text r → end ≤ 32
     → is_word word ≡ true → text ≡ word ++ end ∷ following → IsSomeAnd r (λ found. (found.0.now ≡ word) × (found.1.now ≡ following))
@@ -92,7 +93,7 @@ pub parts_are : (before text rest : List ℕ) (end : ℕ) (r : Option (Bor (List
 parts_are before text rest end None is h = tt
 parts_are before text rest end (Some x) is h = is ∙ ap (λ t. before ++ t) h ∙ sym (append_assoc before x.0.now (end ∷ x.1.now))
 
--- Lemmas that the text after a separator is valid UTF-8.
+-- Lemmas: if a text is valid UTF-8, the part of the text after a separator is valid UTF-8 too.
 
 utf8_after : (text front following : List ℕ) (end : ℕ) → IsUtf8 text → text ≡ front ++ end ∷ following → end ≤ 32 → IsUtf8 following
 utf8_after text front following end u is le =
@@ -107,7 +108,7 @@ pub utf8_parts : (text before : List ℕ) (end : ℕ) (r : Option (Bor (List ℕ
 utf8_parts text before end None u le h = tt
 utf8_parts text before end (Some x) u le h = utf8_after text (before ++ x.0.now) x.1.now end u h le
 
--- Lemmas on parsing a hexadecimal digest.
+-- The lemma that parsing the hexadecimal text of a digest of 32 bytes returns these bytes.
 
 pub decoded : (word all : List ℕ) (room : ℕ) → word ≡ encode_lower all → room ≡ 32 → length all ≡ 32 → IsBytes all → decode_sized word room ≡ Ok all
 decoded word all room is long same bytes =

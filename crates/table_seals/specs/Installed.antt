@@ -33,13 +33,13 @@ pub record AreSame (terms other : Terms) : Type 0 where
   pub register : string_bytes terms.register ≡ string_bytes other.register
   pub ceiling : terms.ceiling ≡ other.ceiling
 
--- The set `new` has exactly the elements of the set `old`, and `terms` (a meter's name, register
--- and maximum power).
+-- States that the set `new` has exactly the elements of the set `old`, and `terms` (a meter's name,
+-- register and maximum power).
 abbrev pub AddsTerms : Terms → (old new : BTreeSet Terms) → Type 0
 AddsTerms terms old new = (other : Terms)
     → IsTrue (has_terms new other) ↔ (AreSame terms other ⊎ IsTrue (has_terms old other))
 
--- The set has exactly the terms (name, register, maximum power) of the given rows of
+-- States that a set has exactly the terms (name, register, maximum power) of the given rows of
 -- `installations`.
 abbrev pub AreTermsOf : List Row → BTreeSet Terms → Type 0
 AreTermsOf rows known = (terms : Terms)

@@ -1,5 +1,5 @@
 -- Defines whether successive database files continue each other, which means that each meter has
--- one history. In each list of meters, the meters of the latest file come first.
+-- one history over all files. In each list of meters, the meters of the latest file come first.
 use Rattle.std.specs.Prelude.{ℕ, ◌-◌, ◌==◌, nat_lt, nat_le, Bool, true, false, not, ◌&&◌, List, [], ◌∷◌, ◌++◌, take, length, flat_map, Option, Some, None, if◌then◌else◌, bytes_eq, string_bytes}
 use Rattle.std.specs.List.{find, list_any}
 use Rattle.std.specs.Option.{option_map, option_map_or, option_to_list}
@@ -30,12 +30,14 @@ known_of office = record {
   latest = office.latest;
 }
 
--- Builds the data about one database file from its name, time zone and meters.
+-- Builds the data about one database file, for the check that the next file continues it, from the
+-- file's name, time zone and meters.
 abbrev pub known_as : (file zone : List ℕ) → List FiledMeter → Known
 known_as file zone meters =
     record { file = file; zone = zone; meters = meters; latest = length meters }
 
--- Adds the data about the next database file to the data about the earlier files.
+-- Adds the meters of the next database file to the data about the earlier files. The result has the
+-- name and the time zone of the next file.
 abbrev pub known_with : (known next : Known) → Known
 known_with known next = record {
   file = next.file;
@@ -48,7 +50,7 @@ known_with known next = record {
 abbrev pub is_meter : (name : List ℕ) → FiledMeter → Bool
 is_meter name meter = bytes_eq (string_bytes meter.meter) name
 
--- Whether one of the meters has the name `name`.
+-- Whether one meter in a list of meters of database files has the name `name`.
 abbrev pub has_meter : (name : List ℕ) → List FiledMeter → Bool
 has_meter name meters = list_any (is_meter name) meters
 
@@ -78,7 +80,8 @@ is_within known new = stay_within MAX_TOTAL (string_bytes new.meter) (new ∷ kn
 
 -- The first of six rules that the continuation of a meter breaks, or None. By these rules, the
 -- earlier meter is open, and has the register, range and ceiling (maximum power) of the new meter.
--- Its last entry equals the new opening (first entry), and the total energy is within the limit.
+-- Its last entry equals the new opening (first entry), and its total energy in all files is within
+-- the limit of one meter.
 abbrev pub fault_between : (within : Bool) → (old new : FiledMeter) → Option JoinFault
 fault_between within old new =
     if old.standing.is_ended then Some Closed else
@@ -97,16 +100,17 @@ is_beyond new old =
     bytes_eq (string_bytes old.register) (string_bytes new.register)
     && nat_lt new.installed.opening.at old.standing.last.at
 
--- A difference by which a file does not continue the earlier files.
+-- A difference by which a database file does not continue the earlier files: its time zone, or a
+-- meter that differs, overlaps an earlier meter, or is missing.
 pub data Join : Type 0 where
   OtherZone : (old new : Known) → Join
   Differs : JoinFault → (old new : FiledMeter) → Join
   Overlaps : (old new : FiledMeter) → Join
   Missing : (old : FiledMeter) → (file : List ℕ) → Join
 
--- The differences that the check reports for a meter in the next file. If an earlier file has a
--- meter of this name, the meter is compared with the latest such meter. Otherwise the meter is
--- compared with all earlier meters.
+-- The differences by which a meter in the next file does not continue the earlier files. If an
+-- earlier file has a meter of this name, the meter is compared with the latest such meter.
+-- Otherwise the meter is compared with all earlier meters.
 abbrev pub joins_by : (known : List FiledMeter) → (new : FiledMeter) → Option FiledMeter
     → List Join
 joins_by known new (Some old) =
@@ -115,8 +119,8 @@ joins_by known new (Some old) =
 joins_by known new None =
     option_to_list (option_map (λ old. Overlaps old new) (find (is_beyond new) known))
 
--- The differences between a meter in the next file and the same meter in the earlier files. The
--- list is empty if the meter continues.
+-- The differences between a meter in the next file and the meter of the same name in the earlier
+-- files. The list is empty if the meter continues.
 abbrev pub joins_of : (known : List FiledMeter) → (new : FiledMeter) → List Join
 joins_of known new = joins_by known new (find (is_meter (string_bytes new.meter)) known)
 
@@ -136,8 +140,8 @@ abbrev pub zone_of : (known next : Known) → List Join
 zone_of known next =
     if bytes_eq next.zone known.zone then [] else OtherZone known next ∷ []
 
--- The differences between the next file and the earlier files. The next file continues the earlier
--- files if and only if this list is empty.
+-- The differences by which the next file does not continue the meters and the time zone of the
+-- earlier files. The next file continues the earlier files if and only if this list is empty.
 abbrev pub joins_between : (known next : Known) → List Join
 joins_between known next =
     zone_of known next ++ flat_map (joins_of known.meters) next.meters
@@ -149,12 +153,14 @@ abbrev pub joins_after : Option Known → (next : Known) → List Join
 joins_after None next = []
 joins_after (Some known) next = joins_between known next
 
--- The data about all database files, including the next file.
+-- The collected data about the earlier database files and the next file together: the meters of all
+-- files, and the name and the time zone of the next file.
 abbrev pub after_next : Option Known → (next : Known) → Known
 after_next None next = next
 after_next (Some known) next = known_with known next
 
--- The differences between each later file and the files before it, the oldest file first.
+-- The differences that a check of successive database files finds between each later file and the
+-- files before it, for example a meter that does not continue. The oldest file comes first.
 abbrev pub joins_of_all : Known → (later : List Known) → List Join
 joins_of_all known [] = []
 joins_of_all known (next ∷ later) =

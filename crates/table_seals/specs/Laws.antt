@@ -38,14 +38,15 @@ VoidsStay = (meter : Installed) (more lines : Journal) → IsWellInstalled meter
     → is_voided_at place (entries_by meter lines) ≡ true
     → is_voided_at place (entries_by meter (more ++ lines)) ≡ true
 
--- `later` is the poll `poll`, read at a later time. If the poll was pending, it may have received
--- an outcome since. Otherwise its outcome is unchanged.
+-- States that `later` is the poll `poll`, read at a later time. If the poll was pending, it may
+-- have received an outcome since. Otherwise its outcome is unchanged.
 pub record IsLater (poll later : ReadPoll) : Type 0 where
   pub numbers : later.numbers ≡ poll.numbers
   pub device : later.device ≡ poll.device
   pub ending : (poll.ending ≡ None) ⊎ (later.ending ≡ poll.ending)
 
--- `later` begins with the polls in `polls`, read at a later time, and may have further polls.
+-- States that `later` begins with the polls in `polls`, read at a later time. `later` may have
+-- further polls.
 abbrev pub AreLater : (polls later : List ReadPoll) → Type 0
 AreLater [] more = ⊤
 AreLater (poll ∷ polls) [] = ⊥

@@ -43,7 +43,8 @@ word_in (Int n) = None
 word_in (Real x) = None
 word_in (Blob b) = None
 
--- The result is the word in a column, or None because the column's value is not a word.
+-- States that a result is the text in a column if this text is a word (all its bytes are greater
+-- than 32). Otherwise, also for values of other types, the result is None.
 abbrev pub IsWordIn : Value → Option (Bor (List ℕ)) → Type 0
 IsWordIn v None = word_in v ≡ None
 IsWordIn v (Some word) = word_in v ≡ Some word.now
@@ -69,7 +70,8 @@ abbrev pub if_of : (number : ℕ) → Result Ending RowFault → Option Ending
 if_of number (Err e) = None
 if_of number (Ok ending) = if ending.poll == number then Some ending else None
 
--- The outcome in the first row if it belongs to the poll with the number `number`, otherwise None.
+-- The outcome in the first of the given rows of `outcomes`, if it belongs to the poll with the
+-- number `number`, otherwise None.
 abbrev pub ending_at : (number : ℕ) → List Row → Option Ending
 ending_at number [] = None
 ending_at number (row ∷ rows) = if_of number (ending_in row)
@@ -89,7 +91,8 @@ if_numbered number (Ok numbers) (Some device) ending =
     if numbers.number == number
     then Some (record { numbers = numbers; device = device; ending = ending }) else None
 
--- The poll in a table row if the row is valid and has the poll number `number`, otherwise None.
+-- The poll in a table row if the row's values are in their ranges, the device's name is a word and
+-- the row has the poll number `number`. Otherwise None.
 abbrev pub poll_at : (number : ℕ) → Row → Option Ending → Option ReadPoll
 poll_at number row ending = if_numbered number (numbers_in row) (word_in (column row 7)) ending
 
@@ -98,8 +101,9 @@ and_more None more = None
 and_more (Some poll) None = None
 and_more (Some poll) (Some polls) = Some (poll ∷ polls)
 
--- The polls of the rows, each with its outcome. None if a row is invalid, a poll number is missing,
--- or an outcome has no poll in these rows.
+-- The polls in rows of `polls`, each with its outcome from rows of `outcomes`. None if a value is
+-- out of its range or a device's name has a space or control byte. Also None if a poll number is
+-- missing, or an outcome has no poll in these rows.
 abbrev pub polls_in : (next : ℕ) → (polls outcomes : List Row) → Option (List ReadPoll)
 polls_in next [] [] = Some []
 polls_in next [] (row ∷ rows) = None
@@ -112,13 +116,13 @@ after polls None = None
 after polls (Some more) = Some (polls ++ more)
 
 -- Appends the polls of the next run (`RUN` consecutive numbers) to the polls of the earlier runs.
--- The result is None if a row is invalid.
+-- The result is None if a row can't be parsed, a poll number is missing, or an outcome has no poll.
 abbrev pub with_run : Option (List ReadPoll) → RunRows → Option (List ReadPoll)
 with_run None rows = None
 with_run (Some polls) rows =
     after polls (polls_in (length polls + 1) rows.polls.items rows.outcomes.items)
 
 -- The polls of consecutive runs of `RUN` polls each, with consecutive numbers from 1. None if a row
--- is invalid.
+-- can't be parsed, a poll number is missing, or an outcome has no poll.
 abbrev pub polls_of : List RunRows → Option (List ReadPoll)
 polls_of runs = fold with_run (Some []) runs

@@ -6,7 +6,7 @@ use Rattle.table_seals.specs.declared.poll_values.Ending.{Ending}
 use Rattle.table_seals.specs.declared.poll_values.PollNumbers.{PollNumbers}
 use Rattle.table_seals.specs.PollReading.{ReadPoll}
 
--- The digested line of a poll: poll NUMBER DEVICE UNIT STARTED TID FUNCTION ADDRESS COUNT
+-- The digested line of a poll: `poll NUMBER DEVICE UNIT STARTED TID FUNCTION ADDRESS COUNT`.
 abbrev pub poll_line : PollNumbers → (device : List ℕ) → List ℕ
 poll_line poll device =
     codes "poll " ++ decimal poll.number ++ codes " " ++ device ++ codes " " ++ decimal poll.unit
@@ -14,7 +14,7 @@ poll_line poll device =
     ++ decimal poll.function ++ codes " " ++ decimal poll.address ++ codes " "
     ++ decimal poll.count ++ codes "\n"
 
--- The digested line of a poll's outcome: outcome MOMENT KIND CODE
+-- The digested line of a poll's outcome: `outcome MOMENT KIND CODE`.
 abbrev pub ending_line : Ending → List ℕ
 ending_line ending =
     codes "outcome " ++ decimal ending.moment ++ codes " " ++ decimal ending.kind ++ codes " "
@@ -29,7 +29,7 @@ ending_text (Some ending) = ending_line ending
 abbrev pub poll_text : ReadPoll → List ℕ
 poll_text poll = poll_line poll.numbers poll.device ++ ending_text poll.ending
 
--- The text of a list of polls: the lines of each poll and its outcome, in order.
+-- The text of a list of polls: the lines of each poll and its outcome, in the order of the list.
 abbrev pub polls_text : List ReadPoll → List ℕ
 polls_text polls = flat_map poll_text polls
 

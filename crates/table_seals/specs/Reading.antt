@@ -5,8 +5,8 @@ use Rattle.hex.specs.Hex.{IsBytes}
 use Rattle.table_seals.specs.Sealed.{Sealed, SealedPolls, SealedTables}
 use Rattle.table_seals.specs.Tables.{is_word}
 
--- A meter's seal can be parsed from its text. The names in the seal are words, its numbers fit in
--- 64 bits, and its digest has 32 bytes.
+-- States that a meter's seal can be parsed from its text. The names in the seal are words, its
+-- numbers fit in 64 bits, and its digest has 32 bytes.
 pub record IsSealable (seal : Sealed) : Type 0 where
   pub meter_word : is_word seal.meter ≡ true
   pub register_word : is_word seal.register ≡ true
@@ -20,16 +20,16 @@ pub record IsSealable (seal : Sealed) : Type 0 where
 abbrev pub AreSealable : List Sealed → Type 0
 AreSealable seals = AllByRecursion IsSealable seals
 
--- The seal of the polls can be parsed from its text. Its numbers fit in 64 bits, and its digest has
--- 32 bytes.
+-- States that the seal of the polls can be parsed from its text. Its numbers fit in 64 bits, and
+-- its digest has 32 bytes.
 pub record ArePollsSealable (seal : SealedPolls) : Type 0 where
   pub count_fits : seal.count < 2 ^ 64
   pub digest_long : length seal.digest ≡ 32
   pub digest_bytes : IsBytes seal.digest
   pub pending_fit : AllByRecursion (λ poll. poll < 2 ^ 64) seal.pending
 
--- A file's seal (digests of its records) can be parsed from its text: the seals of its meters and
--- of its polls can be parsed.
+-- States that a file's seal (digests of its records) can be parsed from its text: the seals of its
+-- meters and of its polls can be parsed.
 pub record AreTablesSealable (seal : SealedTables) : Type 0 where
   pub meters : AreSealable seal.meters
   pub polls : ArePollsSealable seal.polls

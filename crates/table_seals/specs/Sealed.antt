@@ -4,8 +4,9 @@ use Rattle.table_seals.specs.declared.seals.MeterSeal.{MeterSeal}
 use Rattle.table_seals.specs.declared.seals.PollSeal.{PollSeal}
 use Rattle.table_seals.specs.declared.seals.Seal.{Seal}
 
--- The seal of a meter: its name, accounting register, range and ceiling (maximum power), its
--- entries' number and digest, and the indices of its voided (cancelled) entries.
+-- The seal of a meter: its name, accounting register (a named energy counter), range and ceiling
+-- (maximum power), its entries' number and digest, and the indices of its voided (cancelled)
+-- entries.
 pub record Sealed : Type 0 where
   pub meter : List ℕ
   pub register : List ℕ
@@ -27,7 +28,8 @@ sealed_of seal = record {
   voids = seal.voids.items;
 }
 
--- The seal of polls: their number, the digest of their text, and the numbers of the pending polls.
+-- The seal of polls: their number, the digest of the text that lists the polls and their outcomes,
+-- and the numbers of the pending polls.
 pub record SealedPolls : Type 0 where
   pub count : ℕ
   pub digest : List ℕ

@@ -6,17 +6,16 @@ use Rattle.meter_journal.specs.declared.audit.rows.TableRow.{TableRow}
 use Rattle.sqlite.specs.Order.{Row}
 use Rattle.store_tables.specs.Content.{Content}
 use Rattle.table_audit.specs.declared.rows.MeterRows.{MeterRows}
-use Rattle.table_audit.specs.Meters.{AreTheirs}
 use Rattle.table_audit.specs.Showing.{ShowsInstallations}
 use Rattle.table_seals.specs.declared.seals.MeterSeal.{MeterSeal}
 use Rattle.table_seals.specs.declared.seals.Seal.{Seal}
 use Rattle.table_seals.specs.PollSealing.{SealsPolls}
 use Rattle.table_seals.specs.Sealed.{Sealed, sealed_of}
-use Rattle.table_seals.specs.Tables.{HasTerms, HasRead, is_word}
+use Rattle.table_seals.specs.Tables.{AreTheirs, HasTerms, HasRead, is_word}
 use Rattle.table_seals.specs.Texts.{entries_text}
 
--- `seal` is the seal (a digest of the entries) of the meter in an `installations` row. The names in
--- the seal are words, so its text can be parsed.
+-- States that `seal` is the seal (a digest of the entries) of the meter in an `installations` row.
+-- The names in the seal are words, so its text can be parsed.
 pub record IsSealOf (row : Row) (rows : MeterRows) (seal : Sealed) : Type 0 where
   pub terms : HasTerms row seal.meter seal.register seal.ceiling
   pub meter_word : is_word seal.meter ≡ true
@@ -26,28 +25,28 @@ pub record IsSealOf (row : Row) (rows : MeterRows) (seal : Sealed) : Type 0 wher
   pub count : seal.entries ≡ length all_entries
   pub digest_is : seal.digest ≡ sha256 (entries_text all_entries)
 
--- The result is the seal (a digest of the entries) of the meter with the given rows. None means
--- that the meter can't be sealed.
+-- States that a result is the seal (a digest of the entries) of the meter with the given rows. None
+-- means that the meter can't be sealed.
 abbrev pub IsSealed : Row → MeterRows → Option MeterSeal → Type 0
 IsSealed row rows None = (seal : Sealed) → IsSealOf row rows seal → ⊥
 IsSealed row rows (Some seal) = IsSealOf row rows (sealed_of seal)
 
--- The result is the seal (a digest of the entries) of the meter in an `installations` row. If the
--- row has no meter's name, the result is None.
+-- States that a result is the seal (a digest of the entries) of the meter in an `installations`
+-- row. If the row has no meter's name, the result is None.
 abbrev pub IsSealedAt : Row → Option MeterRows → Option MeterSeal → Type 0
 IsSealedAt row (Some rows) found = IsSealed row rows found
 IsSealedAt row None None = ⊤
 IsSealedAt row None (Some seal) = ⊥
 
--- The result is the seal (a digest of the entries) of the meter in an `installations` row, computed
--- from the meter's rows in the tables.
+-- States that `found` is the seal (a digest of the entries) of the meter in an `installations` row,
+-- computed from the meter's rows in the tables.
 pub record SealsRow (content : Content) (row : Row) (found : Option MeterSeal) : Type 0 where
   pub rows : Option MeterRows
   pub theirs : AreTheirs content row rows
   pub is_sealed : IsSealedAt row rows found
 
--- The list has the seal (a digest of the entries) of the meter in each row of `installations`, in
--- the order of the rows.
+-- States that a list has the seal (a digest of the entries) of the meter in each row of
+-- `installations`, in the order of the rows.
 abbrev pub AreSealed : Content → List Row → List MeterSeal → Type 0
 AreSealed content [] [] = ⊤
 AreSealed content (row ∷ rows) (seal ∷ seals) =
@@ -60,14 +59,15 @@ abbrev pub HasUnsealed : List Row → Content → Type 0
 HasUnsealed rows content =
     (i : ℕ) × (row : Row) × (slice_get rows i ≡ Some row) × SealsRow content row None
 
--- The result has the seals (digests of entries) of the meters in all rows of `installations`. None
--- means that one of the meters can't be sealed.
+-- States that a result has the seals (digests of entries) of the meters in all rows of
+-- `installations`. None means that a value of one meter is out of its range, or a name is not a
+-- word.
 abbrev pub SealsRows : {Z : Type 0} → List Row → Content → Option (Vec MeterSeal Z) → Type 0
 SealsRows rows content None = HasUnsealed rows content
 SealsRows rows content (Some seals) = AreSealed content rows seals.items
 
--- The result has the seals (digests of entries) of all meters in the tables. None means that one of
--- the meters can't be sealed.
+-- States that `found` has the seals (digests of entries) of all meters in the tables. None means
+-- that one of the meters can't be sealed.
 pub record SealsMeters {Z : Type 0} (content : Content) (found : Option (Vec MeterSeal Z)) :
     Type 0 where
   pub rows : List Row
@@ -81,12 +81,12 @@ pub record HasUnsealedMeter (content : Content) : Type 0 where
   pub unsealed : HasUnsealed rows content
 
 -- True if the tables can't be sealed (digested): a meter can't be sealed, or the polls can't be
--- read.
+-- parsed from their rows.
 abbrev pub CannotBeSealed : Content → Type 0
 CannotBeSealed content = HasUnsealedMeter content ⊎ SealsPolls content None
 
--- The result is the seal of a file's tables, with digests of the entries of all meters and of the
--- polls. None means that a meter or the polls can't be sealed.
+-- States that a result is the seal of a file's tables, with digests of the entries of all meters
+-- and of the polls. None means that a meter or the polls can't be sealed.
 abbrev pub SealsTables : Content → Option Seal → Type 0
 SealsTables content None = CannotBeSealed content
 SealsTables content (Some seal) =

@@ -6,8 +6,10 @@ use Rattle.meter_journal.specs.declared.audit.rows.TableRow.{TableRow}
 use Rattle.sqlite.specs.declared.types.Value.TheVariants.{Text}
 use Rattle.sqlite.specs.Order.{Row, column}
 use Rattle.store_tables.specs.Columns.{whole_in, or_damaged}
+use Rattle.store_tables.specs.Content.{Content}
 use Rattle.table_audit.specs.declared.rows.MeterRows.{MeterRows}
 use Rattle.table_audit.specs.Reading.{entry_in, place_in, range_in, all_in}
+use Rattle.table_audit.specs.Showing.{AreRowsOf}
 use Rattle.table_seals.specs.declared.tables.ReadRows.{ReadRows}
 use Rattle.table_seals.specs.declared.tables.Terms.{Terms}
 
@@ -20,13 +22,20 @@ pub record HasTerms (row : Row) (meter register : List ℕ) (ceiling : ℕ) : Ty
   pub meter_text : IsUtf8 meter
   pub register_text : IsUtf8 register
 
--- The result has the terms (name, register, maximum power) of an `installations` row. None means
--- that one of its values is invalid.
+-- States that a result has the terms (name, register, maximum power) of an `installations` row.
+-- None means that a name is not a text, or that the maximum power is out of its range.
 abbrev pub TermsAreRead : Row → Option Terms → Type 0
 TermsAreRead row None = (meter register : List ℕ) (ceiling : ℕ)
     → HasTerms row meter register ceiling → ⊥
 TermsAreRead row (Some terms) =
     HasTerms row (string_bytes terms.meter) (string_bytes terms.register) terms.ceiling
+
+-- States that the tables have exactly the rows `rows` for the meter that a row of `installations`
+-- names. If `rows` is None, this row has no UTF-8 text in the column of the meter's name.
+abbrev pub AreTheirs : Content → Row → Option MeterRows → Type 0
+AreTheirs content row None = (name : List ℕ) → IsUtf8 name → column row 1 ≡ Text name → ⊥
+AreTheirs content row (Some rows) =
+    (name : List ℕ) × (column row 1 ≡ Text name) × AreRowsOf name content rows
 
 -- States that the rows of a meter are valid, with exactly one counter range, `range`, and exactly
 -- the given void (cancellation) records and entries.
@@ -36,7 +45,8 @@ pub record HasRead (rows : MeterRows) (range : ℕ) (voids : List ℕ) (entries 
   pub voids_read : all_in place_in rows.voids.items ≡ Ok voids
   pub entries_read : all_in (entry_in voids) rows.entries.items ≡ Ok entries
 
--- The result has the parsed rows of a meter. None means that one of the rows is invalid.
+-- States that an attempt to parse a meter's table rows has the correct result. `None` means that a
+-- row has a value out of its range, or that the meter does not have exactly one counter range.
 abbrev pub RowsAreRead : MeterRows → Option ReadRows → Type 0
 RowsAreRead rows None = (range : ℕ) (voids : List ℕ) (entries : List TableRow)
     → HasRead rows range voids entries → ⊥

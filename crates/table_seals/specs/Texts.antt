@@ -10,6 +10,7 @@ use Rattle.meter_journal.specs.declared.audit.rows.RowKind.TheVariants.{Opening,
 use Rattle.meter_journal.specs.declared.audit.rows.TableRow.{TableRow}
 use Rattle.table_seals.specs.declared.checks.Checked.{Checked}
 use Rattle.table_seals.specs.declared.seals.MeterSeal.{MeterSeal}
+use Rattle.table_audit.specs.Values.{number_of}
 use Rattle.table_seals.specs.Sealed.{Sealed, SealedPolls, SealedTables, sealed_of}
 
 -- The word for the kind of a meter entry in the digested text, such as `opening`.
@@ -21,8 +22,8 @@ kind_word Closing = codes " closing "
 kind_word Reset = codes " reset "
 kind_word Rescale = codes " rescale "
 
--- The number of counter rollovers in the digested line of an entry. A reading's line omits this
--- number, because voiding (cancelling) the previous entry changes it.
+-- The number of counter rollovers in an entry's line of the text that a seal digests. A reading's
+-- line omits this number, because voiding (cancelling) the previous entry changes it.
 abbrev pub own_rolls : RowKind → ℕ → List ℕ
 own_rolls Opening rolls = codes " " ++ decimal rolls
 own_rolls Reading rolls = []
@@ -39,7 +40,8 @@ entry_line entry =
     ++ decimal entry.raw ++ codes " " ++ decimal entry.after ++ codes " "
     ++ signed_decimal entry.sf ++ own_rolls entry.kind entry.rolls ++ codes "\n"
 
--- The text of a list of entries: one line per entry, in order.
+-- The text of a meter's entries from which a seal's digest is computed: one line per entry, in the
+-- order of the list.
 abbrev pub entries_text : List TableRow → List ℕ
 entries_text entries = flat_map entry_line entries
 
@@ -61,7 +63,8 @@ void_line meter place = codes "void " ++ meter ++ codes " " ++ decimal place ++ 
 abbrev pub meter_text : Sealed → List ℕ
 meter_text seal = meter_line seal ++ flat_map (void_line seal.meter) seal.voids
 
--- The line `polls` of a seal, with the number of polls and the digest of their text.
+-- The line `polls` of a seal (digests of earlier records): the number of polls, and the digest of a
+-- text with a line for each poll and each outcome.
 abbrev pub polls_line : SealedPolls → List ℕ
 polls_line seal =
     codes "polls " ++ decimal seal.count ++ codes " sha256 " ++ encode_lower seal.digest
@@ -99,7 +102,7 @@ abbrev pub difference_line : {Z : Type 0} → String Z → List ℕ
 difference_line meter = codes "meter " ++ string_bytes meter ++ codes " differs from the seal\n"
 
 -- The printed line for polls that differ from their seal (digests of earlier records), or an empty
--- text if they match it.
+-- text if the polls match the seal.
 abbrev pub polls_difference : (differ : Bool) → List ℕ
 polls_difference true = codes "polls differ from the seal\n"
 polls_difference false = []
@@ -110,12 +113,13 @@ abbrev pub rest_line : (polls_differ : Bool) → List ℕ
 rest_line true = codes "polls differ\n"
 rest_line false = codes "sealed: fine\n"
 
--- The last printed line of a check against a seal. It has the number of differing meters, or the
--- result for the polls if no meter differs.
+-- The last printed line of a check against a seal (digests of earlier records). It has the number
+-- of differing meters, or the result for the polls if no meter differs.
 abbrev pub total_line : (differing meters : ℕ) → (polls_differ : Bool) → List ℕ
 total_line differing meters polls_differ =
     if differing == 0 then rest_line polls_differ
-    else decimal differing ++ codes " of " ++ decimal meters ++ codes " meters differ\n"
+    else decimal differing ++ codes " of " ++ number_of meters (codes "meter") (codes "meters")
+    ++ (if differing == 1 then codes " differs\n" else codes " differ\n")
 
 -- All printed lines of the check of a seal (digests of earlier records).
 abbrev pub checked_text : Checked → List ℕ

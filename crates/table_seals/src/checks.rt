@@ -6,6 +6,7 @@ ghost use Rattle.table_seals.specs.Texts as say;
 
 use crate::texts::{append_bytes, write_number, write_word};
 use std::alloc::AllocError;
+use table_audit::write_count;
 
 /// The result of checking a file against its seal, which has digests of earlier records. It has the
 /// names of the meters that don't match the seal, the number of sealed meters, and whether the
@@ -74,8 +75,11 @@ fn write_total(
         return add_rest(text, polls_differ);
     }
     write_number(text, b"", differing)?;
-    write_number(text, b" of ", meters)?;
-    append_bytes(text, b" meters differ\n")
+    write_count(text, b" of ", meters, b"meter", b"meters")?;
+    if differing == 1 {
+        return append_bytes(text, b" differs\n");
+    }
+    append_bytes(text, b" differ\n")
 }
 
 /// Appends the printed result of checking a file against its seal (digests of earlier records): a

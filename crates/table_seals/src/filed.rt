@@ -7,7 +7,7 @@ use meter_journal::audit::Standing;
 /// (the first entry), and its state after its last entry.
 #[derive(Drop)]
 pub struct FiledMeter<'a> {
-    /// The name of the file, for messages.
+    /// The name of the database file that the meter is in, for messages.
     pub file: &'a str,
     pub meter: String,
     pub register: String,

@@ -43,8 +43,9 @@ fn shown_by(opening: &TableRow) -> Last
     }
 }
 
-/// Builds a `FiledMeter` from a meter's `installations` row and its rows in other tables. Returns
-/// None if a value is invalid.
+/// Builds a `FiledMeter` (the data for the check that the next file continues the meter) from a
+/// meter's `installations` row and its rows in other tables. Returns None if a value is missing or
+/// out of its range, or a name is not a text.
 fn filed_of<'a>(
     alloc: Global,
     file: &'a str,
@@ -83,8 +84,9 @@ fn filed_of<'a>(
     }))
 }
 
-/// Queries the rows of the meter in an `installations` row, and builds a `FiledMeter`. Returns None
-/// if a value is invalid.
+/// Queries the rows of the meter in an `installations` row, and builds a `FiledMeter` (the data for
+/// the check that the next file continues the meter). Returns None if a value is missing or out of
+/// its range, or a name is not a text.
 fn file_row<'a, S: Alter>(
     alloc: Global,
     conn: &mut Connection<S>,
@@ -118,8 +120,9 @@ fn keep<'a>(meters: &mut Vec<FiledMeter<'a>>, filed: FiledMeter<'a>) -> Result<(
     }
 }
 
-/// Builds a `FiledMeter` for each of the given rows of `installations`. Returns None if a value is
-/// invalid.
+/// Builds a `FiledMeter` (the data for the check that the next file continues the meter) for each
+/// of the given rows of `installations`. Returns None if a value is missing or out of its range, or
+/// a name is not a text.
 fn file_rows<'a, S: Alter>(
     alloc: Global,
     conn: &mut Connection<S>,
@@ -141,8 +144,9 @@ fn file_rows<'a, S: Alter>(
 }
 
 /// Returns the meters in a file's tables, in order of their index. `file` is the name of the file
-/// in messages. Returns None if a name is not a text or another value is invalid; an audit reports
-/// such values. Memory holds all rows of `installations`, and the rows of one meter at a time.
+/// in messages. Returns None if a name is not a text or another value is out of its range; an audit
+/// reports such values. Memory holds all rows of `installations`, and the rows of one meter at a
+/// time.
 pub fn filed_meters<'a, S: Alter>(
     alloc: Global,
     conn: &mut Connection<S>,

@@ -1,5 +1,6 @@
-//! A set of the terms of all installed meters, in which a sealed meter is looked up. The terms are
-//! a meter's name, accounting register (an energy counter) and ceiling (maximum power).
+//! A set of the terms of all installed meters: name, accounting register (an energy counter) and
+//! ceiling (maximum power). The check of a seal (digests of earlier records) looks up the seal's
+//! meters in it.
 ghost use Rattle.std.specs.Prelude.{IfOk, OnOk};
 ghost use Rattle.table_seals.specs.Installed.{AddsTerms, AddsTermsOf, AreTermsOf, ReportsInstalled};
 ghost use Rattle.table_seals.specs.Sealed.{sealed_of};
@@ -19,7 +20,7 @@ fn add(known: &mut BTreeSet<Terms>, terms: Terms) -> Result<(), AllocError>
 }
 
 /// Adds the terms (name, register, maximum power) of an `installations` row to the set `known`.
-/// Adds nothing if the terms are invalid.
+/// Adds nothing if a name is not a text, or the maximum power is out of its range.
 fn add_row(known: &mut BTreeSet<Terms>, row: &Row) -> Result<(), AllocError>
     ensures { OnOk result (AddsTermsOf row.now known.old known.new) }
 {

@@ -6,9 +6,9 @@ pub enum JoinFault {
     /// The meter was already closed in the earlier file.
     Closed,
     /// The meter was assigned to another accounting register (a named counter of a device) in the
-    /// earlier file.
+    /// earlier database file, which the next file continues.
     Register,
-    /// The meter's counter had another range in the earlier file.
+    /// The meter's counter had another range in the earlier database file than in the next file.
     Range,
     /// The meter had another ceiling (maximum power) in the earlier file.
     Ceiling,

@@ -1,4 +1,5 @@
-//! Writes the printed lines of the check that successive database files continue each other.
+//! Writes the printed lines of the check that each database file continues the meters of the files
+//! before it.
 ghost use Rattle.std.specs.Prelude.{◌≡◌, ◌++◌, OnOk, IfOk, flat_map, decimal};
 ghost use Rattle.table_seals.specs.Joins as joins;
 ghost use Rattle.table_seals.specs.JoinTexts as say;
@@ -8,15 +9,15 @@ use crate::join_faults::JoinFault;
 use crate::texts::{append_bytes, write_number, write_scale, write_word};
 use energy_core::Last;
 use std::alloc::{AllocError, Global};
-use table_audit::MOST;
+use table_audit::{MOST, write_count, write_moment};
 
-// The following functions append parts of a printed line. If memory runs out, the text is
-// incomplete.
+// The following functions append parts of a printed line about the difference between two database
+// files. If memory runs out, the text is incomplete.
 
 fn write_counter(text: &mut Vec<u8>, last: &Last) -> Result<(), AllocError>
     ensures { OnOk result (text.new.items ≡ text.old.items ++ say.stand last.now) }
 {
-    write_number(text, b"", last.at)?;
+    write_moment(text, b"", last.at)?;
     write_number(text, b" ", u64::from(last.raw))?;
     write_scale(text, b" ", last.sf)
 }
@@ -153,7 +154,7 @@ fn append_meter(text: &mut Vec<u8>, meter: &FiledMeter<'_>) -> Result<(), AllocE
 
 // The following functions return complete printed lines about differences between files.
 
-/// Returns the line that states why a meter does not continue in the next file.
+/// Returns the line that states why a meter of an earlier file does not continue in the next file.
 pub(crate) fn fault_line(
     alloc: Global,
     fault: JoinFault,
@@ -212,7 +213,8 @@ pub(crate) fn missing_line(
     Ok(line)
 }
 
-/// Returns the line for two files with different time zones.
+/// Returns the line that reports that two database files have different time zones. The line names
+/// both zones and both files.
 pub(crate) fn zone_line(
     alloc: Global,
     old: &FiledOffice<'_>,
@@ -230,7 +232,8 @@ pub(crate) fn zone_line(
     Ok(line)
 }
 
-// The following functions write the complete printed text of a check of successive files.
+// The following functions write the complete printed text of the check that each file continues the
+// meters of the files before it.
 
 fn write_lines(text: &mut Vec<u8>, lines: &[Vec<u8>]) -> Result<(), AllocError>
     ensures { OnOk result (text.new.items ≡ text.old.items
@@ -252,18 +255,25 @@ fn write_more(text: &mut Vec<u8>, more: u64) -> Result<(), AllocError>
     append_bytes(text, b" more\n")
 }
 
+fn put_differences(text: &mut Vec<u8>, all: u64) -> Result<(), AllocError>
+    ensures { OnOk result (text.new.items ≡ text.old.items ++ say.differences_line all) }
+{
+    write_count(text, b"", all, b"difference", b"differences")?;
+    append_bytes(text, b" between files\n")
+}
+
 fn put_all(text: &mut Vec<u8>, all: u64) -> Result<(), AllocError>
     ensures { OnOk result (text.new.items ≡ text.old.items ++ say.all_lines all) }
 {
     if all == 0 {
         return append_bytes(text, b"joined: fine\n");
     }
-    write_number(text, b"", all)?;
-    append_bytes(text, b" differences between files\n")
+    put_differences(text, all)
 }
 
-/// Appends the printed text of a check of successive files: the first `MOST` lines, the number of
-/// omitted lines, and the total number of lines. If memory runs out, the text is incomplete.
+/// Appends the printed text of the check that each file continues the meters of the files before
+/// it: the first `MOST` lines, the number of omitted lines, and the total number of lines. If
+/// memory runs out, the text is incomplete.
 pub fn append_joins(text: &mut Vec<u8>, lines: &[Vec<u8>]) -> Result<(), AllocError>
     ensures { OnOk result (text.new.items ≡ text.old.items ++ say.joined_text lines.now) }
 {

@@ -1,4 +1,5 @@
-//! Checks successive database files, the oldest first. Each file must continue the earlier files.
+//! Checks successive database files, the oldest first. Each file must have the time zone of the
+//! earlier files, and must continue their meters.
 ghost use Rattle.std.specs.Prelude.{◌≡◌, ◌++◌, [], Some, None, IfOk, OnOk, option_map};
 ghost use Rattle.table_seals.specs.Joins.{known_of, known_with};
 
@@ -28,7 +29,7 @@ fn with_next<'a>(
 }
 
 /// The result of checking successive database files, the oldest first. It has the meters of these
-/// files, and a line for each difference between a file and the earlier files.
+/// files, and a line for each difference by which a file does not continue the earlier files.
 #[derive(Drop)]
 pub struct Joining<'a> {
     pub known: Option<FiledOffice<'a>>,
@@ -39,8 +40,8 @@ impl<'a> Joining<'a> {
     ghost use Rattle.table_seals.specs.Joins.{after_next, joins_after};
     ghost use Rattle.table_seals.specs.JoinTexts.{lines_of, texts_of};
 
-    /// Creates the state of a check that has not read a file yet. The function stores the
-    /// allocator, and allocates no memory.
+    /// Creates the state of a check of successive database files that has not read a file yet. The
+    /// function stores the allocator, and allocates no memory.
     pub fn new(alloc: Global) -> Joining<'a>
         ensures none { result.known ≡ None }
         ensures lines { result.lines.items ≡ [] }
@@ -51,9 +52,9 @@ impl<'a> Joining<'a> {
         }
     }
 
-    /// Adds the next file to the checked files, and appends a line for each difference from the
-    /// earlier files. If memory runs out, some lines may be missing, and the data in `known` are
-    /// lost.
+    /// Adds the next file to the checked files, and appends a line for each difference by which it
+    /// does not continue the earlier files. If memory runs out, some lines may be missing, and the
+    /// data in `known` are lost.
     pub fn join(&mut self, alloc: Global, next: FiledOffice<'a>) -> Result<(), AllocError>
         ensures lines { OnOk result (texts_of self.new.lines.items ≡ texts_of self.old.lines.items
             ++ lines_of (joins_after (option_map known_of self.old.known) (known_of next.entry))) }

@@ -19,7 +19,7 @@ fn is_meter(name: &str, meter: &FiledMeter<'_>) -> bool
     meter.meter.as_str() == name
 }
 
-/// Returns whether one of the meters has the name `name`.
+/// Returns whether one of the meters in the list `meters` has the name `name`.
 fn has_meter(name: &str, meters: &[FiledMeter<'_>]) -> bool
     ensures { result ≡ joins.has_meter name.now meters.now }
 {
@@ -118,9 +118,9 @@ fn is_beyond(new: &FiledMeter<'_>, old: &FiledMeter<'_>) -> bool
         && new.installed.opening.at < old.standing.last.at
 }
 
-/// Returns the first known meter that is assigned to a new meter's accounting register (a named
-/// energy counter) and overlaps the new meter. Its last entry is later than the new meter's opening
-/// (first entry).
+/// Returns the first meter of the earlier files that is assigned to a new meter's accounting
+/// register (a named energy counter) and overlaps the new meter. The last entry of the returned
+/// meter is later than the new meter's opening (first entry).
 fn overlapped<'m, 'a>(
     new: &FiledMeter<'_>,
     known: &'m [FiledMeter<'a>],
@@ -130,7 +130,7 @@ fn overlapped<'m, 'a>(
     known.iter().find(|old| is_beyond(new, *old))
 }
 
-/// Appends a printed line to the list of differences.
+/// Appends a printed line to the list of differences between successive database files.
 fn keep(lines: &mut Vec<Vec<u8>>, line: Vec<u8>) -> Result<(), AllocError>
     ensures { OnOk result (texts_of lines.new.items
         ≡ texts_of lines.old.items ++ line.items ∷ []) }
@@ -204,8 +204,8 @@ fn append_meter_lines(
     }
 }
 
-/// Appends a line for each meter of the next file that does not continue the earlier files, or that
-/// overlaps another meter.
+/// Appends a line for each meter of the next file that does not continue the meter of the same name
+/// in the earlier files, or that overlaps another meter.
 fn append_meters(
     alloc: Global,
     lines: &mut Vec<Vec<u8>>,
@@ -279,7 +279,8 @@ fn append_zone(
     keep(lines, line)
 }
 
-/// Appends a line for each way in which the next file does not continue the earlier files.
+/// Appends a line for each difference by which the next file does not continue the meters and the
+/// time zone of the earlier files.
 pub(crate) fn append_join_lines(
     alloc: Global,
     lines: &mut Vec<Vec<u8>>,

@@ -17,7 +17,8 @@ use std::alloc::{AllocError, Global};
 /// A reason why a text can't be parsed as a seal (digests of earlier records).
 #[derive(Clone, Copy, PartialEq, Eq)]
 pub enum NoSeal {
-    /// The text does not have the format of a seal, or its digest is wrong.
+    /// The text does not have the format of a seal, or the digest in its last line is not that of
+    /// the other lines.
     Other,
     Memory,
 }
@@ -33,7 +34,8 @@ struct MeterLine<'a> {
     digest: [u8; 32],
 }
 
-/// The values in the line `polls` of a seal (digests of earlier records).
+/// The values in the line `polls` of a seal (digests of earlier records): the number of polls and
+/// their digest.
 #[derive(Clone, Copy)]
 struct PollsLine {
     count: u64,

@@ -19,7 +19,8 @@ use table_audit::{RUN, RunRows, last_poll, run_rows};
 
 /// Adds to a SHA-256 hasher the text that a run of `RUN` polls had when they were sealed
 /// (digested). Appends the numbers of the polls that are pending now to a list. Returns the next
-/// poll number, or None if a row is invalid.
+/// poll number. Returns None if a row can't be parsed, a poll number is missing, or an outcome has
+/// no poll.
 fn add_run(
     alloc: Global,
     hasher: &mut Sha256,
@@ -77,8 +78,9 @@ fn look_run<S: Alter>(
 }
 
 /// Digests all polls, one run of `RUN` consecutive numbers at a time. Returns the number of polls,
-/// the SHA-256 digest of their text at sealing time, and the numbers of the polls pending now.
-/// Returns None if a row is invalid.
+/// the SHA-256 digest of the text that listed the polls and their outcomes at sealing time, and the
+/// numbers of the polls pending now. Returns None if a row can't be parsed, a poll number is
+/// missing, or an outcome has no poll.
 fn digest_runs<S: Alter>(
     alloc: Global,
     conn: &mut Connection<S>,
@@ -138,7 +140,8 @@ fn digest_polls<S: Alter>(
 }
 
 /// Computes the seal of all polls in the tables: their number, their digest, and the numbers of the
-/// pending polls. Returns None if a row is invalid.
+/// pending polls. Returns None if a row can't be parsed, a poll number is missing, or an outcome
+/// has no poll.
 pub(crate) fn seal_polls<S: Alter>(
     alloc: Global,
     conn: &mut Connection<S>,
@@ -150,7 +153,7 @@ pub(crate) fn seal_polls<S: Alter>(
 }
 
 /// Returns whether the polls, digested as `found`, differ from a seal (an earlier digest). If the
-/// polls can't be read, `found` is None, which counts as a difference.
+/// polls can't be parsed from their rows, `found` is None, which counts as a difference.
 fn differ(found: &Option<PollSeal>, seal: &PollSeal) -> bool
     ensures { (result ≡ false) ↔ said.AreAsSealed found.now (sealed_polls_of seal.now) }
 {

@@ -96,8 +96,8 @@ fn keep_pending(
 }
 
 /// Appends the text that a row's poll had when it was sealed (digested). If the poll has no outcome
-/// now, appends its number to `pending`. Returns whether the row is valid and has the expected poll
-/// number.
+/// now, appends its number to `pending`. Returns whether the row can be parsed and has the expected
+/// poll number.
 fn append_poll(
     text: &mut Vec<u8>,
     pending: &mut Vec<u64>,
@@ -141,7 +141,7 @@ fn rows_after<'a>(ending: Option<Ending>, rows: &'a [Row]) -> &'a [Row]
 
 /// Appends the text that a run of `RUN` polls had when they were sealed (digested). Appends the
 /// numbers of the polls that are pending now to a list. Returns the next poll number. Returns None
-/// if a row is invalid, a poll number is missing, or an outcome has no poll in the run.
+/// if a row can't be parsed, a poll number is missing, or an outcome has no poll in the run.
 pub(crate) fn write_rows(
     text: &mut Vec<u8>,
     pending: &mut Vec<u64>,

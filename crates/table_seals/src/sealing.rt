@@ -20,8 +20,8 @@ pub(crate) fn memory() -> RowFault
     RowFault::Sql(Error::SqliteFailure(ErrorCode::OutOfMemory))
 }
 
-/// Computes the seal of a meter, which has a digest of its entries. Returns None if the meter can't
-/// be sealed, because a value is invalid or a name is not a word.
+/// Computes the seal of a meter, which has a digest of its entries. Returns None if a value is out
+/// of its range, or a name is not a word (it has a space or a control byte).
 fn seal_of(alloc: Global, row: &Row, rows: &MeterRows) -> Result<Option<MeterSeal>, AllocError>
     ensures { IfOk result (IsSealed row.now rows.now) }
 {
@@ -53,7 +53,8 @@ fn seal_of(alloc: Global, row: &Row, rows: &MeterRows) -> Result<Option<MeterSea
 }
 
 /// Queries the rows of the meter in an `installations` row, and computes the meter's seal (a digest
-/// of its entries). Returns None if the meter can't be sealed.
+/// of its entries). Returns None if a value is out of its range, or a name has a space or control
+/// byte.
 fn seal_row<S: Alter>(
     alloc: Global,
     conn: &mut Connection<S>,
@@ -123,8 +124,8 @@ fn seal_meters<S: Alter>(
 
 /// Computes the seal (digests of earlier records) of a file's tables: the seals of all meters in
 /// order of their index, and the seal of the polls. Returns None if a name is not a word, or if a
-/// value is invalid. Memory holds all rows of `installations`, and the rows of one meter or one run
-/// of `RUN` polls at a time.
+/// value is out of its range. Memory holds all rows of `installations`, and the rows of one meter
+/// or one run of `RUN` polls at a time.
 pub fn seal_tables<S: Alter>(
     alloc: Global,
     conn: &mut Connection<S>,

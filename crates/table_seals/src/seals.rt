@@ -1,8 +1,9 @@
 //! The seals of a meter, of polls, and of a complete file. A seal has digests of the records at one
 //! time, to detect later changes of these records.
 
-/// The seal of a meter: its name, accounting register, range and ceiling (maximum power), its
-/// entries' number and digest, and the indices of its voided (cancelled) entries.
+/// The seal of a meter: its name, accounting register (a named energy counter), range and ceiling
+/// (maximum power), its entries' number and digest, and the indices of its voided (cancelled)
+/// entries.
 #[derive(Drop)]
 pub struct MeterSeal {
     pub meter: String,

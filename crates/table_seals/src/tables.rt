@@ -42,7 +42,8 @@ pub(crate) fn text(row: &Row, at: usize) -> Result<Option<String>, AllocError>
 }
 
 /// Parses the terms of an `installations` row: the meter's name, accounting register (an energy
-/// counter) and ceiling (maximum power). Returns None if a value is invalid.
+/// counter) and ceiling (maximum power). Returns None if a name is not a text, or the ceiling is
+/// out of its range.
 pub(crate) fn terms_of(row: &Row) -> Result<Option<Terms>, AllocError>
     ensures { IfOk result (TermsAreRead row.now) }
 {
@@ -63,7 +64,8 @@ pub(crate) fn terms_of(row: &Row) -> Result<Option<Terms>, AllocError>
 }
 
 /// Parses the counter range, the void (cancellation) records and the entries of a meter, which a
-/// seal (digest) covers. Returns None if a row is invalid.
+/// seal (digest) covers. Returns None if a row has a value out of its range, or if there is not
+/// exactly one counter range.
 pub(crate) fn read_rows(alloc: Global, rows: &MeterRows) -> Result<Option<ReadRows>, AllocError>
     ensures { IfOk result (RowsAreRead rows.now) }
 {

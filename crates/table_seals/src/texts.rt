@@ -1,4 +1,5 @@
-//! Writes the text of a meter's entries that a seal digests, and the text of a seal.
+//! Writes the text of a seal, which has digests of earlier records. Also writes the text of a
+//! meter's entries from which a seal's digest is computed.
 ghost use Rattle.std.specs.Prelude.{◌≡◌, ◌++◌, OnOk, IfOk, flat_map, decimal};
 ghost use Rattle.std.specs.Fmt.{signed_decimal};
 ghost use Rattle.hex.specs.Hex.{encode_lower};
@@ -190,7 +191,8 @@ fn write_polls_part(alloc: Global, text: &mut Vec<u8>, seal: &PollSeal) -> Resul
     write_pending(text, seal.pending.as_slice())
 }
 
-/// Returns the text of a seal without its last line. The last line has the digest of this text.
+/// Returns the text of a seal (digests of earlier records) without its last line. The last line has
+/// the digest of this text.
 fn body(alloc: Global, seal: &Seal) -> Result<Vec<u8>, AllocError>
     ensures { IfOk result (λ text. text.items ≡ say.body_text (sealed_tables_of seal.now)) }
 {

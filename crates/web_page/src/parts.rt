@@ -1,4 +1,4 @@
-//! The parts of the web page.
+//! The parts of the web page: the page itself, its script, its style and its icon.
 ghost use Rattle.std.specs.Prelude.{◌≡◌};
 ghost use Rattle.web_page.specs.Parts.{body_of, content_type_of, part_of};
 

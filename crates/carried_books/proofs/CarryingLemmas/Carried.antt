@@ -1,5 +1,6 @@
--- Lemmas on a file rollover, in which a new database file continues the meters of an old file. The
--- lemmas are about queries of the old file and commands to the new file.
+-- Lemmas: a file rollover, in which a new database file continues the meters of an old file,
+-- satisfies its contract. They treat the rollover's queries of the old file and its commands to the
+-- new file.
 use Rattle.std.proofs.Common.{◌≡◌, ℕ, List, Option, Ok, Err, subst, sym}
 use Rattle.std.specs.Prelude.{Result}
 use Rattle.office_events.specs.declared.refusals.Refusal.{Refusal}
@@ -17,9 +18,10 @@ use Rattle.carried_books.specs.declared.carrying.plans.Plan.{Plan}
 use Rattle.carried_books.specs.declared.carrying.plans.Plan.TheVariants as plan
 
 module _ {N : Type 0} (old new : Ledger) (until : Option ℕ) (ledger : N → Ledger) (before after : Office N) where
-  -- Suppose that the plan for a new database file follows from the old file's records, and the new
-  -- file's office (event engine) followed this plan. Then the result satisfies the contract
-  -- `Carries` of a file rollover.
+  -- Suppose that a plan (the commands that set up a new database file) is computed from the old
+  -- file's records. The new file's office (event engine) executed the plan's commands, up to the
+  -- first refused one. Then the result satisfies the contract `Carries` (what a file rollover
+  -- returns and changes).
   pub carries : (p : Plan) (result : Result ℕ CarryFault) → OfOld old new (λ known. IsPlan known until p) → Follows ledger p before after result
       → Carries old new until ledger before after result
   carries (plan.Ready commands meters) (Ok n) is follows = record {

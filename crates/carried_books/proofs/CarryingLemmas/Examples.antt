@@ -42,7 +42,8 @@ first = record { meter = m1; register = main; ceiling = 100000; range = 42949672
 abbrev second : Opening
 second = record { meter = m2; register = main; ceiling = 50000; range = 65536; at = 2000; raw = 7; sf = pos 1 }
 
--- The records of an example database file whose second meter was read at timestamps 2900 and 3000.
+-- The records of an example database file with two meters of a register, one after another. The
+-- second meter was read at timestamps 2900 and 3000.
 abbrev facts : List Fact
 facts =
     fact.Entry (record { meter = m2; kind = kind.Reading; entry = entry.Step 3000 60 0 })
@@ -54,7 +55,8 @@ facts =
     ∷ fact.Device device
     ∷ []
 
--- The records of the example file after the reading at 3000 was voided (cancelled).
+-- The records of an example database file with two meters of a register, after the second meter's
+-- reading at timestamp 3000 was voided (cancelled).
 abbrev voided : List Fact
 voided = fact.Void (record { meter = m2; place = 3; at = 3100 }) ∷ facts
 
@@ -64,13 +66,14 @@ carried at raw = record { meter = m2; register = main; ceiling = 50000; range = 
 abbrev openings : List Fact → (until : Option ℕ) → List (Option Opening)
 openings known until = map (opening_until known until) (open_meters known)
 
--- The new database file continues the second meter from its last reading. The first meter is
--- closed, so it does not continue.
+-- In the example of two successive meters of a register, the new database file continues the second
+-- meter from this meter's last reading. The first meter is closed, so it does not continue.
 at_the_last : openings facts None ≡ Some (carried 3000 60) ∷ []
 at_the_last = refl
 
--- A new database file continues the meter from a reading whose timestamp equals the given time
--- limit. With a limit one second earlier, it continues the meter from the previous reading.
+-- Example: a new database file continues an open meter from its last entry up to a time limit. If a
+-- reading has the limit as its timestamp, the file continues the meter from it. With a limit one
+-- second earlier, the file continues the meter from the previous reading.
 up_to_a_reading : openings facts (Some 3000) ≡ Some (carried 3000 60) ∷ []
 up_to_a_reading = refl
 
@@ -80,8 +83,8 @@ before_a_reading = refl
 at_the_opening : openings facts (Some 2899) ≡ Some (carried 2000 7) ∷ []
 at_the_opening = refl
 
--- With a time limit earlier than the meter's opening (first entry), a new database file can't
--- continue the meter.
+-- A new database file continues meters from their last entries up to a time limit. If the limit is
+-- before a meter's opening (first entry), the file can't continue this meter.
 not_yet : openings facts (Some 1999) ≡ None ∷ []
 not_yet = refl
 
@@ -89,8 +92,9 @@ not_yet = refl
 past_a_void : openings voided None ≡ Some (carried 2900 50) ∷ []
 past_a_void = refl
 
--- The commands for a new database file add the device and its register at the timestamp of the
--- first meter's opening, and then install the meter.
+-- In the example of a file rollover, the commands for the new database file add the device and its
+-- accounting register (a named counter). Their timestamp is that of the first meter's opening
+-- (first entry). Then they install the meter.
 all_commands : commands_for facts (devices_of facts) (carried 3000 60 ∷ [])
     ≡ timed 3000 (command.AddDevice (record { name = Some roof; unit = 17; timeout = 5; window = 2 }))
     ∷ timed 3000

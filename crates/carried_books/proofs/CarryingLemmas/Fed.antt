@@ -1,5 +1,5 @@
--- Lemmas on the history of an office (the part of the program that accepts commands) after it
--- executed commands in order.
+-- Lemmas: after an office (the part of the program that accepts commands) executed commands in
+-- order, its history is the earlier history with these commands added.
 use Rattle.std.proofs.Common.{◌≡◌, ℕ, Bool, true, false, List, [], ◌∷◌, ◌++◌, Option, Some, None, Ok, Err, if◌then◌else◌, inl, inr, refl, sym, ap, subst, ◌∙◌, append_assoc}
 use Rattle.office_events.specs.declared.answers.Answer.{Answer}
 use Rattle.office_events.specs.declared.answers.Answer.TheVariants as answer
@@ -17,10 +17,11 @@ use Rattle.office_core.specs.Taking.{AnswersEvent, IsAnswer, failures_of}
 use Rattle.carried_books.specs.Carrying.Feeding.{AreFed, Feeds, FeedsOne, Passes, accepted, event_of, history_with}
 use Rattle.carried_books.specs.declared.carrying.commands.TimedCommand.{TimedCommand}
 
--- If an office (the event engine) answers a command without a refusal, then the office accepted
--- the command.
+-- Suppose that an office (the event engine) answers a command, and not with `Again` (a repeated
+-- command) or a refusal. Then the command is added to the accepted events.
 
--- True if the answer reports a new command, not the repetition of an earlier command.
+-- True if the answer reports a newly accepted command, not the repetition of a command that was
+-- accepted earlier.
 abbrev IsNew : Answer → Type 0
 IsNew (answer.Again kind) = ⊥
 IsNew (answer.Done kind) = Unit {0}

@@ -1,5 +1,5 @@
--- Lemmas on the last valid (not voided) entry of a meter up to a timestamp. A new database file
--- continues the meter from this entry.
+-- Lemmas: a search through a meter's entries, chunk by chunk, finds the last valid (not voided)
+-- entry up to a timestamp. A new database file continues the meter from this entry.
 use Rattle.std.proofs.Common.{◌≡◌, ℕ, ◌+◌, ◌<◌, true, false, ◌&&◌, List, [], ◌∷◌, ◌++◌, map, take, drop, length, Option, Some, None, inl, inr, refl, sym, ap, subst, ◌∙◌, arith}
 use Rattle.std.specs.List.{find}
 use Rattle.std.specs.Option.{option_map}
@@ -108,9 +108,9 @@ module _ (until : Option ℕ) where
   piece_of facts None n most = none_listed (n + 1) most ∙ sym (ap (take most) (drop_all n [] (omega arith)) ∙ take_all most [] (omega arith))
   piece_of facts (Some opening) n most = piece_at facts opening n most
 
-  -- Suppose that `found` is the counter state at the last valid entry among a meter's first `n`
-  -- entries. After the next chunk of entries is searched too, the result is the state at the last
-  -- valid entry so far.
+  -- Suppose that `found` is the counter state at the last valid (not voided) entry among a meter's
+  -- first `n` entries. After the next chunk of entries is searched too, the search's result is the
+  -- state at the last valid entry so far.
   pub piece_more : (facts : List Fact) (meter : List ℕ) (n : ℕ) (piece : List MeterEntry) (found more : Option Last)
       → piece ≡ entries_from facts meter (n + 1) 65536 → found ≡ last_among until (take n (all_entries facts meter))
       → ((before : List MeterEntry) → found ≡ last_among until before → more ≡ last_among until (before ++ piece))
@@ -122,8 +122,8 @@ module _ (until : Option ℕ) where
       ∙ ap (last_among until) (one_piece_more n 65536 es)
 
   -- If a query for a chunk of a meter's entries returns fewer entries than requested, then the
-  -- meter has no further entries. The result is then the counter state at the meter's last valid
-  -- entry.
+  -- meter has no further entries. The search's result is then the counter state at the meter's last
+  -- valid (not voided) entry.
   pub piece_last : (facts : List Fact) (meter : List ℕ) (n : ℕ) (piece : List MeterEntry) (found more : Option Last)
       → piece ≡ entries_from facts meter (n + 1) 65536 → found ≡ last_among until (take n (all_entries facts meter))
       → ((before : List MeterEntry) → found ≡ last_among until before → more ≡ last_among until (before ++ piece))

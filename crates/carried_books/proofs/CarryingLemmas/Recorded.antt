@@ -1,5 +1,6 @@
--- Lemmas on the records that the commands of a file rollover (the change to a new database file)
--- add to the new file.
+-- Lemmas on the commands of a file rollover (the change to a new database file). They add to the
+-- new file exactly the records of the old file's devices, point lists and accounting registers
+-- (named energy counters), and the openings (first entries) of meters.
 use Rattle.std.proofs.Common.{◌≡◌, ℕ, List, [], ◌∷◌, ◌++◌, map, reverse, Option, Some, None, refl, sym, ap, ◌∙◌, append_assoc}
 use Rattle.std.specs.List.{flat_map}
 use Rattle.std.specs.Option.{option_map, option_to_list}
@@ -22,7 +23,8 @@ use Rattle.carried_books.specs.Carrying.Feeding.{accepted, history_with}
 use Rattle.carried_books.specs.Carrying.Recorded.{CommandsRecordTheSame, carried_facts, device_facts, list_fact}
 use Rattle.carried_books.specs.declared.carrying.commands.TimedCommand.{TimedCommand}
 
--- The command adds the record `f` to the database, and no other record.
+-- True if the command `timed`, after any history of events, adds the record `f` to the database's
+-- records, and no other record.
 abbrev Records : TimedCommand → Fact → Type 0
 Records timed f = (past : History) → facts_of (accepted timed ∷ past) ≡ f ∷ facts_of past
 

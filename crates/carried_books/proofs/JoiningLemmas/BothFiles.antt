@@ -12,7 +12,7 @@ use Rattle.std.proofs.lemmas.List.Sums.{sum_by-append, sum_by-cons}
 use Rattle.energy_core.specs.declared.entries.Last.{Last}
 use Rattle.energy_report.specs.Held.{held_within}
 use Rattle.energy_report.specs.RowLines.{counted}
-use Rattle.energy_report.specs.Statements.{energy_within, is_corrected, is_manual, is_rescale, is_reset, is_voided, counter_after_entry, stands_within, tally_of}
+use Rattle.energy_report.specs.Statements.{energy_within, is_closing, is_corrected, is_manual, is_rescale, is_reset, is_voided, counter_after_entry, opens_within, stands_within, tally_of}
 use Rattle.interval_core.specs.Account.{energy_of}
 use Rattle.interval_core.specs.Ranges.{has_moment}
 use Rattle.interval_core.specs.declared.day_range.DayRange.{DayRange}
@@ -27,7 +27,8 @@ use Rattle.office_books.proofs.Lists.{map_reverse}
 use Rattle.carried_books.specs.Joining.Statements.{BothFilesStateTheJoinedMeter, moved_entry, own_entries}
 use Rattle.carried_books.proofs.JoiningLemmas.KeptMeters.{reported_alike}
 
--- The energy of a meter is the sum of the energies of its quarter hours.
+-- Lemmas: the energy of a list of a meter's intervals is the sum of the energies of its quarter
+-- hours.
 
 -- The sum of the values of a function for all numbers below a bound.
 abbrev up_to : ℕ → (ℕ → ℕ) → ℕ
@@ -94,8 +95,8 @@ elsewhere : (row : Share) (rows : List Share) (s : ℕ) → row.start ≢ s → 
 elsewhere row rows s other = ap energy_of (cond-false _ _ _ (ne_eqb row.start s other))
 
 module _ (asked : ℕ → Bool) where
-  -- The energy in mWh of the quarter hour that starts at `s`, or 0 if this quarter hour is not in
-  -- the requested range.
+  -- The energy in mWh of those intervals in a list that start at `s`, or 0 if the requested range
+  -- does not include `s`.
   abbrev of_quarter : List Share → ℕ → ℕ
   of_quarter rows s = cond (asked s) (energy_from s rows) 0
 
@@ -139,7 +140,8 @@ same_energy zone range old new both once =
     ap (λ n. min n (2 ^ 128 - 1))
     (same_by_quarters (λ s. has_moment zone range s) (old ++ new) both (λ s. of_both old new s ∙ sym (once.quarters s)))
 
--- The statement (report) of a meter does not depend on the indexes of its entries.
+-- The counter state after a meter entry, which the meter's statement (report) uses, does not depend
+-- on the entry's index in its database file.
 
 same_stand : (count : ℕ) (e : MeterEntry) → counter_after_entry (moved_entry count e) ≡ counter_after_entry e
 same_stand count (entry.Opening last) = refl
@@ -195,6 +197,10 @@ module _ (zone : Zone) (range : DayRange) (count : ℕ) where
   same_voided (entry.Opening last) = refl
   same_voided (entry.Later row sf) = refl
 
+  same_opens : (e : MeterEntry) → opens_within zone range (moved_entry count e) ≡ opens_within zone range e
+  same_opens (entry.Opening last) = refl
+  same_opens (entry.Later row sf) = refl
+
   same_corrected : (is : EntryKind → Bool) (e : MeterEntry) → is_corrected zone range is (moved_entry count e) ≡ is_corrected zone range is e
   same_corrected is (entry.Opening last) = refl
   same_corrected is (entry.Later row sf) = refl
@@ -207,6 +213,8 @@ module _ (zone : Zone) (range : DayRange) (count : ℕ) where
     resets = counted_moved count (is_corrected zone range is_reset) (same_corrected is_reset) old new i;
     rescales = counted_moved count (is_corrected zone range is_rescale) (same_corrected is_rescale) old new i;
     voids = counted_moved count (is_voided zone range) same_voided old new i;
+    openings = counted_moved count (opens_within zone range) same_opens old new i;
+    closings = counted_moved count (is_corrected zone range is_closing) (same_corrected is_closing) old new i;
   }
 
 pub joined_meter : BothFilesStateTheJoinedMeter

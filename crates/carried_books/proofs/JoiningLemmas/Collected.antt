@@ -1,5 +1,5 @@
--- Lemmas on the list of accounting registers (named counters) that are collected from several
--- database files.
+-- Lemmas: after a database file was added, the collected accounting registers (named counters) are
+-- those of all files that were added so far.
 use Rattle.std.proofs.Common.{◌≡◌, ◌≢◌, ℕ, ◌+◌, ◌<◌, Bool, true, false, ◌||◌, inl, inr, None, List, [], ◌∷◌, ◌++◌, take, length, get_or, reverse, refl, sym, ap, subst, ◌∙◌, arith, drop, set}
 use Rattle.std.specs.Prelude.{All, Contains, bytes_eq}
 use Rattle.std.specs.List.{AllZip}
@@ -31,7 +31,8 @@ or_true : (b : Bool) → (b || true) ≡ true
 or_true true = refl
 or_true false = refl
 
--- A register is among the collected registers after it was appended.
+-- An accounting register (a named counter) is among the registers collected from several database
+-- files after it was appended to them.
 pub kept_last : (name : List ℕ) (kept : List KeptRegister) (one : KeptRegister) → bytes_eq one.name name ≡ true → is_kept name (kept ++ one ∷ []) ≡ true
 kept_last name [] one same = ap (λ b. b || false) same
 kept_last name (other ∷ kept) one same = ap (λ b. bytes_eq other.name name || b) (kept_last name kept one same) ∙ or_true (bytes_eq other.name name)
@@ -105,8 +106,9 @@ module _ (facts : List Fact) where
       ap (λ (text : List ℕ). bytes_eq text name || is_kept name ys) all.0.name
       ∙ ap (λ b. bytes_eq x.name name || b) (same_kept name xs ys all.1)
 
-  -- Suppose that the data of the next database file were added to each collected register. Then
-  -- each of these registers has the data of this file and of the earlier files.
+  -- Suppose that the data (meters and energies by day) of the next database file were added to each
+  -- collected accounting register (a named counter). Then each of these registers has the data of
+  -- this file and of the earlier files.
   pub each_has_next : (zone : Zone) (files : List (List Fact)) (old new : List KeptRegister) → AllZip (HasNext facts) old new
       → HasRegisters zone files old → Collects zone files (facts ∷ files) new
   each_has_next zone files old new all has =
@@ -137,7 +139,8 @@ module _ (zone : Zone) (facts : List Fact) where
     | inr fails ↦ fails
   ]
 
-  -- A register that was not collected yet is appended, with its data in the database file.
+  -- An accounting register (a named counter) that was not collected yet is appended to the
+  -- collected registers, with its data (meters and energies by day) in the database file.
   pub adds_new : (old new : List KeptRegister) (one : KeptRegister) (none : JoinedFiles) → new ≡ old ++ one ∷ [] → is_kept one.name old ≡ false
       → is_recorded one.name facts ≡ true → HasJoined zone span.All one.name [] none → AllJoin span.All one.name facts none one.files None → AddsMore zone facts old new
   adds_new old new one none is isnt recorded empty joins = record {
@@ -199,8 +202,9 @@ module _ (zone : Zone) (facts : List Fact) where
             (subst Kept at next.listed);
       }
 
-  -- Suppose that registers were appended to the collected registers. If a register is not among the
-  -- collected registers after this, then it was not among them before.
+  -- Suppose that accounting registers (named counters) were appended to those collected from
+  -- earlier database files. If a register is not among the collected registers after this, then it
+  -- was not among them before.
   pub new_before : (old mid : List KeptRegister) (why : Unjoined) → AddsMore zone facts old mid → NewDoesNotJoin zone facts mid why
       → NewDoesNotJoin zone facts old why
   new_before old mid why more it = record {
@@ -233,8 +237,8 @@ module _ (zone : Zone) (facts : List Fact) where
     | inr isnt ↦ before (sym (ap (λ b. b || is_recorded_in name files) isnt) ∙ is)
   ]
 
-  -- A database file is added in two steps. First, its data are added to each collected register.
-  -- Then its registers that were not collected before are appended.
+  -- A database file is added in two steps. First, its data are added to each collected accounting
+  -- register (a named counter). Then its registers that were not collected before are appended.
   pub adds_file : (old mid new : List KeptRegister) → AllZip (HasNext facts) old mid → AddsDevices zone facts (reverse (devices_in facts)) mid new
       → AddsFile zone facts old new
   adds_file old mid new all adds = λ files lawful has.
@@ -253,7 +257,8 @@ over_all : (register : List ℕ) (files : List (List Fact)) → rows_over_within
 over_all register [] = refl
 over_all register (facts ∷ files) = ap (λ (rows : List Share). rows ++ rows_of_register facts register) (over_all register files)
 
--- The energies by day of a collected register are the sum of its quarter hours in all files.
+-- The energies by day of a collected accounting register (a named counter) are the sum of its
+-- quarter hours in all files.
 pub collected_days : CollectedDaysAreSums
 collected_days zone files kept one days has among same = λ number.
     let joined : HasJoined zone span.All one.name files one.files = All-contains (λ (it : KeptRegister). HasJoined zone span.All it.name files it.files) kept one has.each among in

@@ -1,4 +1,5 @@
--- Lemmas on adding up energy intervals by civil day, one interval after another.
+-- Lemmas on adding up energy intervals (energies of quarter hours) by civil day, one interval after
+-- another. The result is the sum of all intervals, or a failure.
 use Rattle.std.proofs.Common.{◌≡◌, ℕ, ◌+◌, ◌<◌, ◌^◌, List, [], ◌∷◌, ◌++◌, Option, Some, None, refl, sym, ap, subst, ◌∙◌, arith, append_assoc}
 use Rattle.std.specs.Prelude.{Contains, MatchOption, unwrap_or}
 use Rattle.std.proofs.lemmas.List.{append-nil}
@@ -13,8 +14,8 @@ use Rattle.office_books.specs.Rows.{TakesAll}
 use Rattle.carried_books.specs.declared.joining.days.JoinedDays.{JoinedDays}
 use Rattle.carried_books.specs.Joining.Days.{AddsRow, AddsUp, AddUp, AreOutOfTurn, HasNumber, TakesShare}
 
--- Lemmas: an energy interval is out of order if it starts before the latest start among the
--- intervals that were added earlier.
+-- Lemmas: an energy interval (energy of a quarter hour) is out of order if it starts before the
+-- latest start among the intervals that were added earlier.
 
 behind_latest : (rows : List Share) (latest : Option ℕ) (row : Share) → IsLatest rows latest → row.start < unwrap_or latest 0
     → (earlier : ℕ) × Contains (starts_of rows) earlier × (row.start < earlier)
@@ -40,8 +41,8 @@ with_row done row fits =
     let one : energy_of (row ∷ []) ≡ row.mwh + energy_of [] = sum_by-cons (λ (r : Share). r.mwh) row [] in
     omega (arith, fits, both, one)
 
--- If an energy interval is added to the sum of the intervals `done` by civil day, then the result
--- is the sum of `done` and this interval, or a failure.
+-- Suppose that an energy interval (energy of a quarter hour) is added to the sum of the intervals
+-- `done` by civil day. The result is the sum of `done` and this interval, or a failure.
 adds_up : (failed : Option DayFault) (zone : Zone) (done : List Share) (row : Share) (fold : FoldState) → AddsUp failed zone done row fold
     → AddUp failed zone (done ++ row ∷ []) fold
 adds_up None zone done row fold adds = adds
@@ -57,8 +58,8 @@ still_out done row out = record {
   is = out.is;
 }
 
--- If one more interval is passed to the sum of the intervals `done`, then the result is the sum of
--- `done` and this interval, or a failure. The time zone is unchanged.
+-- If one more interval is passed to the sum of the intervals `done` by civil day, then the result
+-- is the sum of `done` and this interval, or a failure. The time zone of the sum is unchanged.
 add_one : (failed : Option DayFault) (done : List Share) (row : Share) (s next : JoinedDays) → s.fault ≡ failed → HasNumber (done ++ row ∷ [])
     → AddUp failed s.zone done s.fold → MatchOption failed (AddsRow s row next) (λ fault. next ≡ s)
     → (next.zone ≡ s.zone) × AddUp next.fault s.zone (done ++ row ∷ []) next.fold
@@ -73,8 +74,8 @@ add_one (Some fault.Memory) done row s next is fits added step =
     let P : Option DayFault → Type 0 = λ f. AddUp f s.zone (done ++ row ∷ []) s.fold in
     subst Q (sym step) (refl, subst P (sym is) tt)
 
--- If the intervals `rest` are passed to the sum of the intervals `done`, then the result is the sum
--- of `done` and `rest`, or a failure. The time zone is unchanged.
+-- If the intervals `rest` are passed to the sum of the intervals `done` by civil day, then the
+-- result is the sum of `done` and `rest`, or a failure. The time zone of the sum is unchanged.
 pub add_all : (zone : Zone) (done rest : List Share) (s after : JoinedDays) → s.zone ≡ zone → HasNumber (done ++ rest) → AddUp s.fault zone done s.fold
     → TakesAll TakesShare s rest after → (after.zone ≡ zone) × AddUp after.fault zone (done ++ rest) after.fold
 add_all zone done [] s after is fits added took =
@@ -90,7 +91,8 @@ add_all zone done (row ∷ rest) s after is fits added took =
     let all = add_all zone (done ++ row ∷ []) rest took.0 after (one.0 ∙ is) fit next took.2 in
     (all.0, subst (λ (rows : List Share). AddUp after.fault zone rows after.fold) same all.1)
 
--- Adding energy intervals to a sum by day leaves the time zone of the sum unchanged.
+-- Adding energy intervals (energies of quarter hours) to a sum by day leaves the time zone of the
+-- sum unchanged.
 
 one_zone : (failed : Option DayFault) (row : Share) (s next : JoinedDays) → MatchOption failed (AddsRow s row next) (λ fault. next ≡ s) → next.zone ≡ s.zone
 one_zone None row s next step = step.zone

@@ -1,4 +1,5 @@
--- Lemmas on the results of collecting the data of an office's earlier database files.
+-- Lemmas: the data (meters and energies by day) that are collected for accounting registers (named
+-- counters) are those of the earlier database files.
 use Rattle.std.proofs.Common.{◌≡◌, List, ◌∷◌, Option, Some, None, true, Result, Ok, Err, refl, sym, subst, ◌∙◌}
 use Rattle.std.specs.Prelude.{All, Contains, IfOk}
 use Rattle.std.specs.Option.{is_some}
@@ -14,8 +15,8 @@ use Rattle.carried_books.specs.declared.joining.earlier.KeptRegister.{KeptRegist
 use Rattle.carried_books.specs.declared.joining.earlier.KeptRegisters.{KeptRegisters}
 use Rattle.carried_books.specs.declared.joining.files.Unjoined.{Unjoined}
 
--- The collected registers (named counters) are those of the files that were added, in the time zone
--- in which the collection began.
+-- The collected accounting registers (named counters) have the data (meters and energies by day) of
+-- the database files that were added. Their time zone is unchanged since the collection began.
 abbrev Kept : Zone → List (List Fact) → KeptRegisters → Type 0
 Kept zone files kept = (kept.zone ≡ zone) × (All AreLawful files → HasRegisters zone files kept.kept.items)
 
@@ -31,7 +32,8 @@ registers_kept zone facts old new (Ok None) same adds = λ files has. (
 registers_kept zone facts old new (Ok (Some why)) same adds = tt
 registers_kept zone facts old new (Err fault) same adds = tt
 
--- Each database file in `files` was compared with the collected data, and continues them.
+-- Each database file in `files` was compared with the collected data of the earlier files, and
+-- continues the history of the meters in these data.
 abbrev Held : Zone → List (List Fact) → ComparedRegisters → Type 0
 Held zone files held = (held.kept.zone ≡ zone) × All (λ (facts : List Fact). HoldAll held.kept.kept.items facts None) files
 

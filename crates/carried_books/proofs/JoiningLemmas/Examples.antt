@@ -30,8 +30,8 @@ register = record { name = main; device = codes "roof"; function = InputRegister
 abbrev opening : (at raw : ℕ) → Opening
 opening at raw = record { meter = codes "m1"; register = main; ceiling = 100000; range = 65536; at = at; raw = raw; sf = pos 0 }
 
--- The records of the old database file: the meter was opened at timestamp 1000, and showed 10 Wh at
--- 1900.
+-- In the example of a meter in two database files, the records of the old file. The meter was
+-- opened at timestamp 1000, and showed 10 Wh at 1900.
 abbrev old : List Fact
 old =
     fact.Entry (record { meter = codes "m1"; kind = kind.Reading; entry = entry.Step 1900 10 0 })
@@ -40,8 +40,8 @@ old =
     ∷ fact.Device device
     ∷ []
 
--- The records of the new database file: the meter was opened at timestamp 1900 with 10 Wh, and
--- showed 25 Wh at 2800, read by hand.
+-- In the example of a meter in two database files, the records of the new file. The meter was
+-- opened at timestamp 1900 with 10 Wh, and showed 25 Wh at 2800, read by hand.
 abbrev new : List Fact
 new =
     fact.Entry (record { meter = codes "m1"; kind = kind.Manual; entry = entry.Step 2800 25 0 })
@@ -56,8 +56,8 @@ in_old = meter_in old (installation_of old (opening 1000 0))
 abbrev in_new : MeterOver
 in_new = meter_in new (installation_of new (opening 1900 10))
 
--- The old and the new database file join, which means that together they have one history of one
--- meter.
+-- In the example of a meter in two database files, the old and the new file join, which means that
+-- together they have one history of the meter.
 one_meter : AreMetersOver main (new ∷ old ∷ []) (both_of in_old in_new ∷ [])
 unfolding unit_of
 one_meter = record {
@@ -80,7 +80,8 @@ one_meter = record {
 }
 
 -- The statement (report) of the meter begins with its opening (first entry) in the old file, and
--- ends with the reading by hand in the new file.
+-- ends with the reading by hand in the new file. The opening in the new file repeats the last entry
+-- of the old file, and is not counted.
 stated : (zone : Zone) → statement_over zone all_days (both_of in_old in_new) ≡ record {
   meter = codes "m1";
   entries = record {
@@ -90,6 +91,8 @@ stated : (zone : Zone) → statement_over zone all_days (both_of in_old in_new) 
     resets = 0;
     rescales = 0;
     voids = 0;
+    openings = 1;
+    closings = 0;
   };
   mwh = 25000;
   held = none_held;

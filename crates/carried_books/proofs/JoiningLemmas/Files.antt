@@ -1,5 +1,5 @@
--- Lemmas on adding one more file to earlier database files that join (have one history of each
--- meter).
+-- Lemmas: if earlier database files join (have one history of each meter) and the next file
+-- continues this history, then all files join.
 use Rattle.std.proofs.Common.{◌≡◌, ℕ, Bool, true, false, not, ◌&&◌, ◌||◌, Option, List, [], ◌∷◌, ◌++◌, Some, None, refl, sym, subst, ◌∙◌}
 use Rattle.interval_core.specs.Fold.{HasTaken}
 use Rattle.interval_core.specs.declared.shares.Share.{Share}

@@ -1,5 +1,6 @@
--- The lemma that `JoinedFiles` has the meters and the daily energies of the database files that
--- were added to it.
+-- The lemma that the collected data of an accounting register (a named counter) have the meters and
+-- daily energies of all database files that were added. The collected data are of the type
+-- `JoinedFiles`.
 use Rattle.std.proofs.Common.{ℕ, List, Option, Some, None}
 use Rattle.interval_core.specs.declared.zone.Zone.{Zone}
 use Rattle.office_events.specs.declared.facts.Fact.{Fact}

@@ -1,5 +1,6 @@
--- Lemmas on the collected data of one meter over several database files, for its statement
--- (report): its entries, its quarter hours and its rejected readings.
+-- Lemmas: if the next database file's data of a meter are added to its collected data, the result
+-- is the meter's data over all files. The data are the entries, quarter hours and rejected readings
+-- for the meter's statement (report).
 use Rattle.std.proofs.Common.{◌≡◌, ℕ, ◌+◌, ◌-◌, ◌^◌, ◌<◌, ◌&&◌, nat_le, Bool, true, false, cond, List, [], ◌∷◌, ◌++◌, take, drop, length, None, inl, inr, refl, sym, ap, subst, ◌∙◌, append-nil, append_assoc, arith}
 use Rattle.std.specs.Prelude.{filter, min}
 use Rattle.std.specs.List.{count_by, sum_by}
@@ -69,8 +70,9 @@ module _ (zone : Zone) (range : DayRange) (facts : List Fact) (meter : List ℕ)
       ∙ ap (take 65536) (ap (λ c. drop c (all_entries facts meter)) (sym both) ∙ sym (drop-drop n k (all_entries facts meter))
       ∙ ap (drop n) (sym (own_of goes_on (all_entries facts meter))))
 
-  -- States that the tally `now` counts all entries that the tally `old` counts. In addition, `now`
-  -- counts the first `n` of those entries of the meter that no earlier database file has.
+  -- States that the tally (counts of entries) `now` counts all entries that the tally `old` counts.
+  -- In addition, `now` counts the first `n` of those entries of the meter that no earlier database
+  -- file has.
   abbrev pub HasTallied : (n : ℕ) → (old now : EntryTally) → Type 0
   HasTallied n old now = TalliesOn zone range (take n its_own) old now
 

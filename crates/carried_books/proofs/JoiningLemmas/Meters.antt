@@ -1,5 +1,6 @@
--- Lemmas on adding the meters of a register (a named counter) one after another: each continues or
--- follows the meters before it.
+-- Lemmas: adding the meters of a register (a named counter) one after another yields the list of
+-- all its meters, or two meters that conflict. Each meter must continue an earlier meter, or begin
+-- after the earlier meters were closed.
 use Rattle.std.proofs.Common.{◌≡◌, ◌↔◌, ◌&&◌, ℕ, ◌<◌, Bool, true, false, not, List, [], ◌∷◌, length, take, Option, Some, None, inl, inr, refl, sym, subst, ◌∙◌, arith}
 use Rattle.std.specs.Prelude.{All, Contains, IsTrue, is_some}
 use Rattle.std.specs.List.{find}
@@ -69,15 +70,17 @@ one_apart known row stands is =
     let found = find_some (λ stands. not (is_before stands row)) known stands is in
     (found.0, not_true _ found.1)
 
--- If a meter in a later database file does not continue the last earlier meter, then it follows all
--- earlier meters, or conflicts with one.
+-- If a meter in a later database file does not continue the last earlier meter, then it begins
+-- after all earlier meters were closed, or conflicts with one of them. Meters conflict if they
+-- overlap in time or have one name.
 pub next_or_apart : (known : List Installation) (row : Installation) (after : List Installation) (apart : Option Apart) → NoneGoesOn known row
     → AddsNext known row after apart → AddsOrIsApart known row after apart
 next_or_apart known row after None other adds = inr adds
 next_or_apart known row after (Some apart) other adds = record { begins = adds.0; among = adds.1; not_before = adds.2; other = other }
 
--- If a meter neither continues nor follows the meters before it in a list, then the list's meters
--- can't be added to the earlier meters.
+-- Suppose that a meter in a list conflicts with an earlier meter (it overlaps the earlier meter in
+-- time or has the same name, and is no continuation). Then the meters of the list can't be added to
+-- the earlier meters.
 pub apart_among : (known listed mid now after : List Installation) (row : Installation) (begun : List Installation) (apart : Option Apart)
     → is_some apart ≡ true → (n : ℕ) → take n listed ≡ begun → AddMeters known begun mid → Contains listed row → AddsOrIsApart mid row now apart
     → AddOrAreApart known listed after apart
@@ -90,8 +93,8 @@ apart_among known listed mid now after row begun (Some apart) is n same took amo
   is = adds;
 }
 
--- If adding a meter returns no conflicting meter, then the meter continues or follows the earlier
--- meters.
+-- If adding a meter to a list of earlier meters returns no conflict, then the meter continues the
+-- last earlier meter, or begins after all of them were closed.
 pub joined_one : (mid : List Installation) (row : Installation) (now : List Installation) (apart : Option Apart) → is_some apart ≡ false
     → AddsOrIsApart mid row now apart → AddsMeter mid row now
 joined_one mid row now None isnt adds = adds

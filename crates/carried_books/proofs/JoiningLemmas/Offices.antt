@@ -1,5 +1,6 @@
 -- Lemmas on the daily energies of a register (a named counter) over earlier database files and the
--- database of a running office.
+-- running program's file. They are the sums of the intervals in all files, or the request is
+-- refused for an allowed reason.
 use Rattle.std.proofs.Common.{◌≡◌, ℕ, ◌+◌, ◌<◌, ◌≤◌, true, Bool, inl, inr, List, [], ◌∷◌, ◌++◌, take, get_or, length, map, Option, Some, None, Result, Ok, Err, refl, sym, ap, subst, ◌∙◌, arith, append-nil, reverse}
 use Rattle.std.specs.Prelude.{All, filter}
 use Rattle.std.specs.List.{flat_map}
@@ -97,8 +98,8 @@ rows_reported : (facts : List Fact) (asked : Span) (meter : List ℕ) (o : Openi
 rows_reported facts asked meter o there =
     ap (λ (found : Option Opening). option_map (rows_within asked) (option_map (rows_of_opening facts) found)) there
 
--- If a requested item exists, then a query for this item is refused only because the database or
--- memory failed, or the event handling had stopped.
+-- If a requested item exists, then only two reasons for a refusal of its query remain: the database
+-- or memory failed, or the event handling had stopped after an earlier failure.
 there_fails : (m : Type 0) (before after : Failures) (why : Refusal) → IsFound {T = Unit {0}} m (Some tt) before after (Err why) → IsOutside m before after why
 there_fails m before after why (inl is) = absurd (cc is.0)
 there_fails m before after why (inr fails) = fails
@@ -113,8 +114,8 @@ not_listed f None before after why (inl is) = inl (ap Err is.0, is.1)
 not_listed f None before after why (inr fails) = inr fails
 not_listed f (Some x) before after why fails = inr fails
 
--- Adding the intervals `more` to a copy of the sum of the intervals `rows` gives the sum of `rows`
--- and `more`, or a failure.
+-- Adding the intervals `more` to a copy of the sum of the intervals `rows` by civil day gives the
+-- sum of `rows` and `more`, or a failure.
 days_on : (zone : Zone) (rows more : List Share) (earlier : EarlierDays) (copy after : JoinedDays) → GoesOnFrom zone earlier copy → AreSumOf zone rows earlier
     → HasNumber (rows ++ more) → TakesAll TakesShare copy more after → AddUp after.fault zone (rows ++ more) after.fold
 days_on zone rows more earlier copy after is added fits took =
@@ -133,7 +134,8 @@ lists (Some fault.Memory) zone rows fold there before after (Err why) is same ad
     inl (inr (subst (IsOutside (there ≡ Some tt) before after) (sym ends) (inr (is, same))))
 
 module _ {B : Type 0} (ledger : B → Ledger) where
-  -- True if the quarter hours of the first `n` meters in `listed` were added up.
+  -- True if the quarter hours of the first `n` meters in `listed` were added to a sum of energy by
+  -- civil day.
   abbrev pub HaveFirst : (a b : Office B) → (listed : List Installation) → (n : ℕ) → Span → (from to : JoinedDays) → Type 0
   HaveFirst a b listed n asked from to = After ledger a b (λ past. (openings : List Opening)
       → listed ≡ map (installation_of (facts_of past)) openings → All (IsInstalled (facts_of past)) openings
@@ -243,7 +245,8 @@ module _ {B : Type 0} (ledger : B → Ledger) where
       }
 
   -- Suppose that all queries of the database succeeded. Then a refusal because an energy interval
-  -- is out of order satisfies the contract `OnlyAsks`.
+  -- is out of order satisfies the contract `OnlyAsks`, which allows a request no change of the
+  -- records.
   out_of_turn : {T : Type 0} (a b : Office B) → (is_stopped a ≡ true → ⊥) → Keeps ledger a b → OnlyAsks {T = T} ledger a b (Err (refusal.Store store.NoDay))
   out_of_turn a b goes kept = record {
     stands = kept.stands;

@@ -1,5 +1,6 @@
 -- The lemma that each accounting register (a named counter) of a lawful database file belongs to a
--- device of the file. Lawful means that the rules accept each record after the earlier ones.
+-- device of the file. Lawful means that the rules for records accept each record after the earlier
+-- ones.
 use Rattle.std.proofs.Common.{◌≡◌, ℕ, Bool, true, false, cond, inl, inr, Option, Some, None, List, [], ◌∷◌, reverse, refl, sym, ap, subst, ◌∙◌}
 use Rattle.std.specs.Prelude.{All}
 use Rattle.std.specs.List.{filter, find}
@@ -88,12 +89,12 @@ module _ (facts : List Fact) (kept : List KeptRegister) (listed : All (λ (it : 
   kept_of_register lawful name None is there = absurd (cc)
   kept_of_register lawful name (Some r) is there = kept_of_found name r (device_of facts r.device) is refl (device_known facts name r lawful is)
 
-  -- If the registers of all devices were collected, then each register that the file records was
-  -- collected.
+  -- If the accounting registers (named counters) of all devices of a database file were collected,
+  -- then each register that the file records was collected.
   pub each_recorded_is_kept : AreLawful facts → (name : List ℕ) → is_recorded name facts ≡ true → is_kept name kept ≡ true
   each_recorded_is_kept lawful name is = kept_of_register lawful name (register_of facts name) refl is
 
--- Each register in a list is found in the list by the register's name.
+-- Each accounting register (a named counter) in a list is found in the list by the register's name.
 each_named : (registers : List Register) → All (λ (it : Register). is_some (find (λ (r : Register). same r.name it.name) registers) ≡ true) registers
 each_named [] = All-nil (λ (it : Register). is_some (find (λ (r : Register). same r.name it.name) []) ≡ true)
 each_named (x ∷ xs) =
@@ -102,7 +103,8 @@ each_named (x ∷ xs) =
     All-cons Named x xs (ap is_some (cond-true _ (Some x) (find (λ (r : Register). same r.name x.name) xs) (same_itself x.name)))
     (All-weaker Later Named (λ it is. some_or (same x.name it.name) x (find (λ (r : Register). same r.name it.name) xs) is) xs (each_named xs))
 
--- The registers of a device in a database file are recorded in this file.
+-- The accounting registers (named counters) of a device in a database file are recorded in this
+-- file.
 pub registers_recorded : (facts : List Fact) (device : List ℕ) → AreRecorded (registers_of facts device) facts
 registers_recorded facts device =
     let Named : Register → Type 0 = λ it. is_recorded it.name facts ≡ true in

@@ -1,5 +1,5 @@
--- Lemmas on the daily energies that are reported for a register (a named counter) over several
--- database files with one joint history.
+-- Lemmas: the report of a register (a named counter) over several database files with one joint
+-- history has the daily energies of all files.
 use Rattle.std.proofs.Common.{◌≡◌, ℕ, ◌+◌, ◌<◌, ◌^◌, ◌==◌, Bool, true, false, cond, not, List, [], ◌∷◌, ◌++◌, length, Option, inl, inr, refl, sym, ap, subst, ◌∙◌, arith}
 use Rattle.std.specs.Prelude.{filter, map, if◌then◌else◌}
 use Rattle.std.specs.List.{list_any}
@@ -71,7 +71,8 @@ with_number (Between from till) rows more fits =
     let part : energy_of (rows ++ filter asked more) ≡ energy_of rows + energy_of (filter asked more) = sum_by-append (λ (row : Share). row.mwh) rows (filter asked more) in
     omega (arith, fits, both, whole, part)
 
--- Civil days outside the requested range of a report are not reported.
+-- Filtering a list twice with one test gives the same list as filtering once. So a report is the
+-- same if the civil days outside its range were removed before.
 
 twice : {X : Type 0} (p : X → Bool) (xs : List X) → filter p (filter p xs) ≡ filter p xs
 twice p [] = refl

@@ -68,8 +68,9 @@ not_left : (ended a b : Bool) → (ended && a) ≡ true → (not ended && b) ≡
 not_left true a b is = refl
 not_left false a b is = absurd (cc is)
 
--- The current file's meter is reported as the latest if it does not continue the meter that the
--- earlier database files left open.
+-- Suppose that the current file's meter at an accounting register (a named counter) does not
+-- continue the meter that the earlier database files left open. Then the current file's meter is
+-- reported as the register's latest meter.
 reported_as_new : (known : List Installation) (row : Installation)
     → ((front : List Installation) (stands : Installation) → known ≡ front ++ stands ∷ [] → is_left stands row ≡ false)
     → option_map meter_of (latest_meter known (Some row)) ≡ Some row

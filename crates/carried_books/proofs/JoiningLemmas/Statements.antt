@@ -1,5 +1,6 @@
--- Lemmas on the collected data of meters over several database files, for their statements
--- (reports).
+-- Lemmas: after a database file's meters were added to the meter data collected from the earlier
+-- files, the collected data are those of all files. The meters' statements (reports) are made from
+-- these data.
 use Rattle.std.proofs.Common.{◌≡◌, ℕ, ◌&&◌, Bool, true, false, not, List, [], ◌∷◌, ◌++◌, map, Option, Some, None, Result, Ok, Err, IfOk, inl, inr, refl, sym, ap, subst, ◌∙◌, append-nil, arith}
 use Rattle.std.specs.Prelude.{All, Contains, filter, find, is_some}
 use Rattle.std.specs.Option.{option_map}
@@ -51,8 +52,8 @@ module _ (zone : Zone) (range : DayRange) where
         | inr isnt ↦ ap (map reported_of) (cond-false _ _ _ isnt) ∙ rest ∙ sym (ap (map (statement_over zone range)) (cond-false _ _ _ isnt))
       ]
 
-  -- If the last element of the collected data is `one`, then `one` has the collected data of the
-  -- last meter.
+  -- If the last element of the collected meter data is `one`, then `one` has the data of the last
+  -- meter in `meters`.
   pub reported_last : (kept : List KeptMeter) (one : KeptMeter) (meters : List MeterOver) → AreReported zone range (kept ++ one ∷ []) meters
       → (before : List MeterOver) × (m : MeterOver) × (meters ≡ before ++ m ∷ []) × AreReported zone range kept before × (one ≡ kept_of zone range m)
   reported_last [] one [] reported = absurd (cc reported)
@@ -159,14 +160,16 @@ find_stands row (one ∷ kept) = elim (cases_Bool (not (is_before one.stands row
   | inr isnt ↦ ap (option_map stands_of) (cond-false _ _ _ isnt) ∙ find_stands row kept ∙ sym (cond-false _ _ _ isnt)
 ]
 
--- Suppose that a list is searched for a meter that is not before the meter `row` (`is_before`). A
--- meter that the search finds is in the list, and is not before `row`.
+-- Suppose that a list is searched for a meter that was not closed before the meter `row` began, or
+-- has the same name (not `is_before`). A meter that the search finds is in the list, and has this
+-- property.
 pub stands_apart : (row stands : Installation) (kept : List KeptMeter) → option_map stands_of (find (λ one. not (is_before one.stands row)) kept) ≡ Some stands
     → Contains (map stands_of kept) stands × (is_before stands row ≡ false)
 stands_apart row stands kept is = one_apart (map stands_of kept) row stands (sym (find_stands row kept) ∙ is)
 
--- Suppose that a list is searched for a meter that is not before the meter `row` (`is_before`). If
--- the search finds none, then all meters of the list are before `row`.
+-- Suppose that a list is searched for a meter that was not closed before the meter `row` began, or
+-- has the same name (not `is_before`). If the search finds none, then all meters of the list were
+-- closed before `row` began.
 pub stand_earlier : (row : Installation) (kept : List KeptMeter) → option_map stands_of (find (λ one. not (is_before one.stands row)) kept) ≡ None
     → All (λ stands. is_before stands row ≡ true) (map stands_of kept)
 stand_earlier row kept is = all_before (map stands_of kept) row (sym (find_stands row kept) ∙ is)
@@ -176,14 +179,15 @@ stand_more : (kept : List KeptMeter) (one : KeptMeter) (all : List KeptMeter) (s
 stand_more kept one all stands are is =
     ap (map stands_of) are ∙ map-append stands_of kept (one ∷ []) ∙ ap (λ (those : Installation). map stands_of kept ++ those ∷ []) is
 
--- If all meters of a list are before the meter `row` (`is_before`), then appending `row` to the
--- list adds `row` as the next meter (`IsNext`).
+-- Suppose that all meters of a list were closed before the meter `row` began, and have other names
+-- (`is_before`). Then appending `row` to the list adds `row` as the next meter (`IsNext`).
 pub stands_next : (row : Installation) (new : KeptMeter) (old after : List KeptMeter) → All (λ stands. is_before stands row ≡ true) (map stands_of old)
     → after ≡ old ++ new ∷ [] → new.stands ≡ row → IsNext (map stands_of old) row (map stands_of after)
 stands_next row new old after earlier are is = record { earlier = earlier; after_is = stand_more old new after row are is }
 
--- If the meter `row` continues the last collected meter, and one meter over all database files
--- replaces both, then `row` was added correctly (`AddsMeter`).
+-- Suppose that the meter `row` continues the last collected meter, and one meter over all database
+-- files replaces both. Then the contract `AddsMeter` is satisfied (`row` was added to the collected
+-- meters).
 pub stands_on : (row : Installation) (last new : KeptMeter) (kept old after : List KeptMeter) → old ≡ kept ++ last ∷ [] → GoesOn last.stands row
     → after ≡ kept ++ new ∷ [] → new.stands ≡ as_one last.stands row → AddsMeter (map stands_of old) row (map stands_of after)
 stands_on row last new kept old after old_is goes after_is is = inl (record {
@@ -194,8 +198,9 @@ stands_on row last new kept old after old_is goes after_is is = inl (record {
   after_is = stand_more kept new after (as_one last.stands row) after_is is;
 })
 
--- If the meter `row` does not continue the last meter, then `row` is appended because it follows
--- all meters, or it conflicts with one of them.
+-- Suppose that the meter `row` does not continue the last meter. Then `row` is appended because it
+-- begins after all meters were closed, or it conflicts with one of them (overlaps it in time, or
+-- has its name).
 pub stands_otherwise : (row : Installation) (last : KeptMeter) (kept old mid after : List KeptMeter) (apart : Option Apart) → old ≡ kept ++ last ∷ []
     → (GoesOn last.stands row → ⊥) → mid ≡ kept ++ last ∷ [] → AddsNext (map stands_of mid) row (map stands_of after) apart
     → AddsOrIsApart (map stands_of old) row (map stands_of after) apart
@@ -215,15 +220,16 @@ stands_first row old mid after apart old_is mid_is adds =
     next_or_apart (map stands_of old) row (map stands_of after) apart (inl (ap (map stands_of) (nothing_before old mid old_is mid_is)))
     (subst (λ (those : List KeptMeter). AddsNext (map stands_of those) row (map stands_of after) apart) (sym (old_is ∙ append-nil mid)) adds)
 
--- If two lists of collected meter data are equal, then the contract `ReportsAll` for one list
--- implies this contract for the other.
+-- If two lists of collected meter data are equal, then the contract `ReportsAll` (one more file's
+-- meters were added) for one list implies this contract for the other.
 pub reported_from : (zone : Zone) (range : DayRange) (facts : List Fact) (listed : List Installation) (old mid new : List KeptMeter) (apart : Option Apart)
     → old ≡ mid → ReportsAll zone range facts listed mid new apart → ReportsAll zone range facts listed old new apart
 reported_from zone range facts listed old mid new apart same reports =
     subst (λ (those : List KeptMeter). ReportsAll zone range facts listed those new apart) (sym same) reports
 
--- If a register's meters in one database file are added to the collected data, then the data have
--- these meters, or two meters conflict.
+-- Suppose that the meters of an accounting register (a named counter) in one database file are
+-- added to the collected data. Then these data have the meters, or two meters conflict (overlap in
+-- time or have one name).
 pub added_listed : (zone : Zone) (range : DayRange) (facts : List Fact) (listed shown : List Installation) (old new : List KeptMeter)
     (result : Result (Option Apart) BooksFault) → shown ≡ listed → IfOk result (AddOrAreApart (map stands_of old) shown (map stands_of new))
     → IfOk result (ReportsAll zone range facts shown old new) → IfOk result (AddsListed zone range facts listed old new)
@@ -233,8 +239,9 @@ added_listed zone range facts listed shown old new (Ok apart) same joins reports
 )
 added_listed zone range facts listed shown old new (Err why) same joins reports = tt
 
--- If adding a file's meters returns two conflicting meters, then the contract `ReportsAll` is
--- trivially true. This contract states something only for the result `None` (no conflict).
+-- If adding a file's meters returns two conflicting meters (they overlap in time or have one name),
+-- then the contract `ReportsAll` (the file's meters were added) is trivially true. This contract
+-- states something only for the result `None` (no conflict).
 pub reported_apart : (zone : Zone) (range : DayRange) (facts : List Fact) (listed : List Installation) (old new : List KeptMeter) (apart : Option Apart)
     → is_some apart ≡ true → ReportsAll zone range facts listed old new apart
 reported_apart zone range facts listed old new None is = absurd (cc is)

@@ -1,6 +1,6 @@
 -- Lemmas on an accounting register (a named counter) that lawful database files do not record. Such
--- files have no meter and no energy interval of this register. Lawful means that the rules accept
--- each record of a file after the earlier ones.
+-- files have no meter and no energy interval of this register. Lawful means that the rules for
+-- records accept each record of a file after the earlier ones.
 use Rattle.std.proofs.Common.{◌≡◌, ℕ, Bool, false, Option, Some, None, List, [], ◌∷◌, ◌++◌, map, reverse, refl, sym, ap, subst, ◌∙◌}
 use Rattle.std.specs.Prelude.{All}
 use Rattle.std.specs.List.{filter, find, flat_map}
@@ -67,8 +67,8 @@ module _ (register : List ℕ) where
       let parts = or_parts (is_recorded register facts) (is_recorded_in register files) isnt in
       (λ is. absurd (false≢true (sym parts.1 ∙ is)), stays_unrecorded files parts.1)
 
-  -- Files that do not record the register have the same data of the register as an empty list of
-  -- files.
+  -- If database files do not record an accounting register (a named counter), then they have the
+  -- same data of this register as an empty list of files.
   pub has_unrecorded : (zone : Zone) (files : List (List Fact)) (kept : JoinedFiles) → All AreLawful files → is_recorded_in register files ≡ false
       → HasJoined zone span.All register [] kept → HasJoined zone span.All register files kept
   has_unrecorded zone files kept lawful isnt has = record {

@@ -48,11 +48,12 @@ pub record WaitsFor {N : Type 0} (old new : Ledger) (until : Option ℕ) (before
   pub none : after ≡ before
   pub are : OfOld old new (λ known. IsNotYet known until (open_meters known) meter)
 
--- The result of a file rollover, the change to a new database file.
+-- The contract of a file rollover, the change to a new database file: what each result means.
 --
--- A success has the number of installed meters. A fault is one of three: the new file's office
--- refused a command, an open meter has no valid entry, or the old database or memory failed. In the
--- last two cases, the new office received no command.
+-- A successful file rollover returns the number of installed meters. A fault is one of three: the
+-- new file's office (event engine) refused a command, an open meter has no valid (not voided)
+-- entry, or the old database or memory failed. In the last two cases, the new office received no
+-- command.
 abbrev pub Carries : {N : Type 0} → (old new : Ledger) → (until : Option ℕ) → (N → Ledger)
     → (before after : Office N) → Result ℕ CarryFault → Type 0
 Carries old new until ledger before after (Ok meters) =
@@ -66,7 +67,8 @@ Carries old new until ledger before after (Err (Old why)) = after ≡ before
 -- The new file's office (event engine) followed the plan of a file rollover: it executed all
 -- commands of the plan, or refused a command.
 --
--- If the plan names a meter that has no entry to continue from, the office received no command.
+-- If the plan of a file rollover names a meter that has no entry to continue from, the office
+-- (event engine) of the new file received no command.
 abbrev pub Follows : {N : Type 0} → (N → Ledger) → Plan → (before after : Office N)
     → Result ℕ CarryFault → Type 0
 Follows ledger (Ready commands meters) before after (Ok n) =
@@ -85,16 +87,16 @@ pub record FailedBy (before after : Failures) (why : Refusal) : Type 0 where
   pub is : why ≡ as_refusal fault
   pub failures : FailuresAfterCalls {T = Unit {0}} (Err fault) before after
 
--- The failure counts of the old database change only if the result reports a failure of that
--- database.
+-- The failure counts of the old database change only if the file rollover's result reports a
+-- failure of that database.
 abbrev pub ReportsFailures : (before after : Failures) → Result ℕ CarryFault → Type 0
 ReportsFailures before after (Ok meters) = after ≡ before
 ReportsFailures before after (Err (New why)) = after ≡ before
 ReportsFailures before after (Err (NotYet meter)) = after ≡ before
 ReportsFailures before after (Err (Old why)) = FailedBy before after why
 
--- The old database file was only queried: its records, its time zone and the records that a crash
--- may leave are unchanged.
+-- The old database file was only queried: its records and its time zone are unchanged, and so is
+-- the set of records that may remain after a crash.
 pub record OnlyAsked (old new : Ledger) (result : Result ℕ CarryFault) : Type 0 where
   pub keeps : KeepsFacts old new
   pub failures : ReportsFailures old.failures new.failures result

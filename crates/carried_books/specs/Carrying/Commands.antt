@@ -1,5 +1,5 @@
 -- The commands that set up a new office (a new database file) with the devices, point lists,
--- accounting registers and meters of an old one.
+-- accounting registers (named counters) and meters of an old database file.
 use Rattle.std.specs.Prelude.{ℕ, List, [], ◌∷◌, ◌++◌, map, Some}
 use Rattle.std.specs.Option.{option_map, option_to_list}
 use Rattle.std.specs.List.{flat_map}
@@ -18,8 +18,8 @@ use Rattle.office_events.specs.declared.facts.ScaleSource.TheVariants as source
 use Rattle.office_books.specs.Facts.{latest_in, list_of, registers_of}
 use Rattle.carried_books.specs.declared.carrying.commands.TimedCommand.{TimedCommand}
 
--- A command with the timestamp at which the office of a new database file is to execute the
--- command.
+-- A command with the timestamp at which the office (event engine) of a new database file is to
+-- execute the command.
 abbrev pub timed : (at : ℕ) → Command → TimedCommand
 timed at c = record { at = at; command = c }
 
@@ -36,8 +36,8 @@ device_command device = command.AddDevice (record {
 abbrev pub list_command : (device : List ℕ) → Planned → Command
 list_command device list = command.PutList (record { device = Some device; list = list })
 
--- The source of an accounting register's scale factor (fixed, or a Modbus address), as an argument
--- of a command.
+-- The source of the scale factor of an accounting register (a named counter), as an argument of a
+-- command: a fixed number, or a Modbus address.
 abbrev pub scale_given : ScaleSource → GivenScale
 scale_given (source.Fixed sf) = given.Fixed sf
 scale_given (source.Register address) = given.Register address
@@ -73,8 +73,8 @@ add_device at device = timed at (device_command device)
 abbrev pub put_list : (at : ℕ) → (device : List ℕ) → Planned → TimedCommand
 put_list at device list = timed at (list_command device list)
 
--- The commands for a device's point list: one command with its timestamp, or none if the device has
--- no point list.
+-- The list of the commands that store a device's point list in the new database file: one command
+-- with its timestamp, or none if the device has no point list.
 abbrev pub write_lists : (at : ℕ) → List Fact → Device → List TimedCommand
 write_lists at facts device =
     option_to_list (option_map (put_list at device.name) (list_of facts device.name))
@@ -83,7 +83,8 @@ write_lists at facts device =
 abbrev pub add_register : (at : ℕ) → Register → TimedCommand
 add_register at register = timed at (register_command register)
 
--- The commands for the accounting registers (named counters) of a device, in their order.
+-- The commands that add the accounting registers (named counters) of a device to a new database
+-- file, in the order of the registers.
 abbrev pub add_registers : (at : ℕ) → List Fact → Device → List TimedCommand
 add_registers at facts device = map (add_register at) (registers_of facts device.name)
 
@@ -103,7 +104,7 @@ abbrev pub install : Opening → TimedCommand
 install opening = timed opening.at (install_command opening)
 
 -- The timestamp at which devices are set up in the new database file: that of the first meter's
--- opening, or the latest recorded timestamp if no meter is installed.
+-- opening (first entry), or the latest recorded timestamp if no meter is installed.
 abbrev pub first_moment : List Fact → List Opening → ℕ
 first_moment facts [] = latest_in facts
 first_moment facts (opening ∷ openings) = opening.at

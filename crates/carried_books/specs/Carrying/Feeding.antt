@@ -51,7 +51,7 @@ pub record AreFedUpTo {B : Type 0} (ledger : B → Ledger) (past : History)
   pub refused : IsRefused ledger (history_with past given) next old new why
 
 -- States that on `Ok`, the office (event engine) executed the command. On an error, the office
--- refused the command, and its state is unchanged.
+-- refused the command, and the office's state is unchanged.
 abbrev pub IsFedOr : {B : Type 0} → (B → Ledger) → History → TimedCommand
     → (old new : Office B) → Result (Unit {0}) Refusal → Type 0
 IsFedOr ledger past timed old new (Ok done) = AreFed ledger past (timed ∷ []) old new
@@ -64,22 +64,24 @@ abbrev pub AreFedOr : {B : Type 0} → (B → Ledger) → History → List Timed
 AreFedOr ledger past commands old new (Ok done) = AreFed ledger past commands old new
 AreFedOr ledger past commands old new (Err why) = AreFedUpTo ledger past commands old new why
 
--- The contract of feeding one command to an office (event engine). The contract promises `IsFedOr`
--- for any history of the office before the command.
+-- The contract of feeding one command to an office (event engine), for any history of the office.
+-- The contract promises `IsFedOr`: the command was executed, or refused without an effect.
 abbrev pub FeedsOne : {B : Type 0} → (B → Ledger) → TimedCommand → (old new : Office B)
     → Result (Unit {0}) Refusal → Type 0
 FeedsOne ledger timed old new result =
     After ledger old new (λ past. IsFedOr ledger past timed old new result)
 
--- The contract of feeding several commands to an office (event engine). The contract promises
--- `AreFedOr` for any history of the office before the commands.
+-- The contract of feeding several commands to an office (event engine), for any history of the
+-- office. The contract promises `AreFedOr`: all commands were executed, or those before a refused
+-- one.
 abbrev pub Feeds : {B : Type 0} → (B → Ledger) → List TimedCommand → (old new : Office B)
     → Result (Unit {0}) Refusal → Type 0
 Feeds ledger commands old new result =
     After ledger old new (λ past. AreFedOr ledger past commands old new result)
 
--- If the database returned no wrong result up to the end of a call, then the database returned none
--- before the call. The call leaves the database's time zone unchanged in any case.
+-- If the database returned no wrong result up to the end of a call that feeds commands to an office
+-- (event engine), then it returned none before the call. The call leaves the database's time zone
+-- unchanged in any case.
 pub record Passes {B : Type 0} (ledger : B → Ledger) (old new : Office B) : Type 0 where
   pub clean : (ledger (books_in new)).is_clean → (ledger (books_in old)).is_clean
   pub zone : (ledger (books_in new)).zone ≡ (ledger (books_in old)).zone

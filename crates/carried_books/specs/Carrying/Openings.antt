@@ -15,22 +15,21 @@ use Rattle.carried_books.specs.Carrying.Standings.{last_until}
 use Rattle.carried_books.specs.declared.carrying.openings.Openings.{Openings}
 use Rattle.carried_books.specs.declared.carrying.openings.Openings.TheVariants.{All, NotYet}
 
--- A list with the open meter that is assigned to an accounting register (a named counter). The list
--- is empty if the register has no open meter.
+-- A list with the not yet closed meter of an accounting register (a named counter). The list is
+-- empty if the register has no such meter.
 abbrev pub open_at_register : List Fact → Register → List Installation
 open_at_register facts register = option_to_list (open_at facts register.name)
 
--- The open meters that are assigned to several accounting registers (named counters), in the order
--- of the registers.
+-- The not yet closed meters of several accounting registers (named counters), in the order of the
+-- registers. A register has at most one such meter.
 abbrev pub open_at_registers : List Fact → List Register → List Installation
 open_at_registers facts registers = flat_map (open_at_register facts) registers
 
--- The open meters that are assigned to a device's accounting registers (named counters).
+-- The not yet closed meters of all accounting registers (named counters) of a device.
 abbrev pub open_at_device : List Fact → Device → List Installation
 open_at_device facts device = open_at_registers facts (registers_of facts device.name)
 
--- The open meters that are assigned to the accounting registers (named counters) of several
--- devices.
+-- The not yet closed meters of all accounting registers (named counters) of several devices.
 abbrev pub open_at_devices : List Fact → List Device → List Installation
 open_at_devices facts devices = flat_map (open_at_device facts) devices
 
@@ -52,8 +51,8 @@ abbrev pub AreOpeningsOf : List Fact → (until : Option ℕ) → List Installat
     → Type 0
 AreOpeningsOf facts until rows openings = map (opening_until facts until) rows ≡ map Some openings
 
--- The meter with this name is among `rows`, and has no valid (not voided) entry up to `until`. The
--- meter can't continue in a new database file.
+-- The meter with the name `meter` is among `rows`, and has no valid (not voided) entry up to
+-- `until`. The meter can't continue in a new database file.
 pub record IsNotYet (facts : List Fact) (until : Option ℕ) (rows : List Installation)
     (meter : List ℕ) : Type 0 where
   pub row : Installation
@@ -61,8 +60,8 @@ pub record IsNotYet (facts : List Fact) (until : Option ℕ) (rows : List Instal
   pub name : row.opening.meter ≡ meter
   pub none : opening_until facts until row ≡ None
 
--- States that the result has the openings (first entries) of all meters in `rows`, or names a meter
--- without a valid entry up to `until`.
+-- States that for each meter in `rows` an opening (first entry) was found, or that a meter without
+-- a valid (not voided) entry up to `until` was found.
 abbrev pub AreOpened : List Fact → (until : Option ℕ) → List Installation → Openings → Type 0
 AreOpened facts until rows (All openings) = AreOpeningsOf facts until rows openings.items
 AreOpened facts until rows (NotYet meter) = IsNotYet facts until rows meter

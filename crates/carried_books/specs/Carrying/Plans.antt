@@ -33,25 +33,26 @@ pub record AreCommandsFor (facts : List Fact) (devices : List Device) (opened : 
   pub are : commands ≡ commands_for facts devices openings
   pub count : meters ≡ length openings
 
--- The commands of a file rollover (the change to a new database file) for the new office.
+-- The commands of a file rollover (the change to a new database file) for the office (event engine)
+-- of the new file.
 --
--- These commands set up each device of the old office. They then install each open meter at its
--- last valid (not voided) entry up to `until`.
+-- The commands of a file rollover set up each device of the old database file in the new one. They
+-- then install each open meter at its last valid (not voided) entry up to `until`.
 pub record AreCarried (facts : List Fact) (until : Option ℕ) (commands : List TimedCommand)
     (meters : ℕ) : Type 0 where
   pub opened : List Opening
   pub each : AreOpeningsOf facts until (open_meters facts) opened
   pub so : AreCommandsFor facts (devices_of facts) opened commands meters
 
--- True if the plan of a file rollover has the commands for the devices in `devices` and the
--- openings (first entries of meters) in `opened`.
+-- True if the plan of a file rollover (its commands) sets up the devices in `devices`, and
+-- continues meters by the openings (first entries) in `opened`.
 abbrev pub IsPlanFor : List Fact → List Device → List Opening → Plan → Type 0
 IsPlanFor facts devices opened (Ready commands meters) =
     AreCommandsFor facts devices opened commands.items meters
 IsPlanFor facts devices opened (NotYet meter) = ⊥
 
--- True if the plan has the commands of a file rollover, or names an open meter that has no valid
--- (not voided) entry up to `until`.
+-- True if the plan for a new database file is correct. It has the commands of the file rollover, or
+-- names an open meter that has no valid (not voided) entry up to `until`.
 abbrev pub IsPlan : List Fact → (until : Option ℕ) → Plan → Type 0
 IsPlan facts until (Ready commands meters) = AreCarried facts until commands.items meters
 IsPlan facts until (NotYet meter) = IsNotYet facts until (open_meters facts) meter

@@ -1,4 +1,5 @@
--- The records in a new database file in which an office's meters continue (a file rollover).
+-- The records in a new database file in which the open meters of an old file continue (a file
+-- rollover).
 use Rattle.std.specs.Prelude.{◌≡◌, ℕ, List, ◌∷◌, ◌++◌, map, reverse, Some, None}
 use Rattle.std.specs.List.{flat_map}
 use Rattle.std.specs.Option.{option_map, option_to_list}
@@ -27,22 +28,22 @@ device_facts facts device =
     ∷ (option_to_list (option_map (list_fact device.name) (list_of facts device.name))
     ++ map fact.Register (registers_of facts device.name))
 
--- The records in the new database file: the devices with their point lists and registers, followed
--- by the openings (first entries) of the meters.
+-- The records in the new database file: the devices with their point lists and accounting registers
+-- (named counters), followed by the openings (first entries) of the meters.
 abbrev pub carried_facts : List Fact → List Device → List Opening → List Fact
 carried_facts facts devices openings =
     flat_map (device_facts facts) devices ++ map fact.Opening openings
 
 -- The theorem that the commands for a new database file record exactly the old file's devices,
--- point lists and registers, and the meters' openings (first entries).
+-- point lists and accounting registers (named counters), and the meters' openings (first entries).
 abbrev pub CommandsRecordTheSame : Type 0
 CommandsRecordTheSame =
     (past : History) (facts : List Fact) (devices : List Device) (openings : List Opening)
     → facts_of (history_with past (commands_for facts devices openings))
     ≡ reverse (carried_facts facts devices openings) ++ facts_of past
 
--- The theorem that each meter continues in its present state, when a new database file begins, if
--- no limit is given for the timestamps of entries.
+-- The theorem on a file rollover without a limit for the timestamps of entries. Each meter
+-- continues in the new database file with the counter state that it has in the old file.
 abbrev pub MetersGoOnWhereTheyStand : Type 0
 MetersGoOnWhereTheyStand =
     (facts : List Fact) (meter : List ℕ) (row : Installation)

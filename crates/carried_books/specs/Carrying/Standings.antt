@@ -36,8 +36,8 @@ stands (listed.Later row sf) = row.stands
 abbrev pub counts : (until : Option ℕ) → MeterEntry → Bool
 counts until e = stands e && is_until until (shown_by e).at
 
--- The state of a meter's counter at the last entry in a list that is valid and not later than
--- `until`. `None` if the list has no such entry. The entries are in order.
+-- For a list of a meter's entries, in the order of recording: the counter's state at the last entry
+-- that is valid (not cancelled) and not later than `until`. `None` if the list has no such entry.
 abbrev pub last_among : (until : Option ℕ) → List MeterEntry → Option Last
 last_among until entries = option_map shown_by (find (counts until) (reverse entries))
 

@@ -31,8 +31,8 @@ pub record AreOutOfTurn (rows : List Share) : Type 0 where
 abbrev pub HasNumber : List Share → Type 0
 HasNumber rows = energy_of rows < 2 ^ 128
 
--- States that the energy intervals in `rows` were added up by civil day, or that the sum failed. It
--- fails if an interval is out of order, or if memory runs out.
+-- States that the energy intervals (energies of quarter hours) in `rows` were added up by civil
+-- day, or that the sum failed. It fails if an interval is out of order, or if memory runs out.
 abbrev pub AddUp : Option DayFault → Zone → List Share → FoldState → Type 0
 AddUp None zone rows fold = HasTaken zone rows fold
 AddUp (Some fault.Zone) zone rows fold = AreOutOfTurn rows
@@ -43,24 +43,24 @@ AddUp (Some fault.Memory) zone rows fold = Unit {0}
 abbrev pub HasAdded : JoinedDays → List Share → Type 0
 HasAdded sink rows = HasNumber rows → AddUp sink.fault sink.zone rows sink.fold
 
--- States that a new energy interval was added to a sum by civil day, or that the sum failed. It
--- fails if the interval is out of order, or if memory runs out.
+-- States that a new energy interval (energy of a quarter hour) was added to a sum by civil day, or
+-- that the sum failed. It fails if the interval is out of order, or if memory runs out.
 abbrev pub AddsUp : Option DayFault → Zone → List Share → Share → FoldState → Type 0
 AddsUp None zone rows row fold = HasTaken zone (rows ++ row ∷ []) fold
 AddsUp (Some fault.Zone) zone rows row fold = IsOutOfTurn rows row
 AddsUp (Some fault.Memory) zone rows row fold = Unit {0}
 
--- States that an energy interval was added to the sum by civil day, or that the sum recorded a
--- failure. This is stated only if the total energy fits in 128 bits. The sum's time zone is
--- unchanged in any case.
+-- States that an energy interval (energy of a quarter hour) was added to the sum by civil day, or
+-- that the sum recorded a failure. This is stated only if the total energy fits in 128 bits. The
+-- sum's time zone is unchanged in any case.
 pub record AddsRow (old : JoinedDays) (row : Share) (new : JoinedDays) : Type 0 where
   pub zone : new.zone ≡ old.zone
   pub added : (rows : List Share) → HasTaken old.zone rows old.fold
       → energy_of rows + row.mwh < 2 ^ 128
       → AddsUp new.fault old.zone rows row new.fold
 
--- A sum of energy intervals adds a new interval, or drops the interval if an earlier failure was
--- recorded.
+-- A sum of energy intervals (energies of quarter hours) adds a new interval, or drops the interval
+-- if an earlier failure was recorded.
 abbrev pub TakesShare : JoinedDays → Share → JoinedDays → Type 0
 TakesShare old row new = MatchOption old.fault (AddsRow old row new) (λ fault. new ≡ old)
 

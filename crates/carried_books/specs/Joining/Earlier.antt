@@ -49,8 +49,9 @@ kept_as kept = record {
 abbrev pub registers_in : KeptRegisters → List KeptRegister
 registers_in kept = kept.kept.items
 
--- States that `copy` has the name, the meters and the flag `is_recorded` of the collected
--- accounting register `one` (a named counter).
+-- States that `copy` and `one`, which have an accounting register's data
+-- from several database files, agree in three fields. These are the name, the meters and the flag
+-- `is_recorded` (whether a file records the register).
 pub record IsCopy (one copy : KeptRegister) : Type 0 where
   pub name : copy.name ≡ one.name
   pub recorded : copy.files.is_recorded ≡ one.files.is_recorded
@@ -62,10 +63,11 @@ abbrev pub is_kept : (name : List ℕ) → List KeptRegister → Bool
 is_kept name kept = list_any (λ one. bytes_eq one.name name) kept
 
 -- The collected accounting registers (named counters) `kept` have the data of all database files in
--- `files`, and each of them is recorded in one of these files.
+-- `files` (meters and energies by day). Each of these registers is recorded in at least one of the
+-- files.
 --
--- Each register that a file in `named` records was collected, and no two collected registers have
--- the same name.
+-- Each accounting register (a named counter) that a database file in `named` records was collected.
+-- No two collected registers have the same name.
 pub record Collects (zone : Zone) (named files : List (List Fact)) (kept : List KeptRegister) :
     Type 0 where
   pub each : All (λ (one : KeptRegister). HasJoined zone span.All one.name files one.files) kept
@@ -83,15 +85,15 @@ HasRegisters zone files kept = Collects zone files files kept
 -- counters) from `old` to `new`. If `old` has the registers of the earlier files, then `new` has
 -- the registers of the earlier files and the added file.
 --
--- All files must be lawful: the rules accept each record of a file after the earlier ones. Lists of
--- files have the latest file first.
+-- The contract of adding a database file assumes that all files are lawful: the rules for records
+-- accept each record of a file after the earlier ones. Lists of files have the latest file first.
 abbrev pub AddsFile : Zone → (facts : List Fact) → (old new : List KeptRegister) → Type 0
 AddsFile zone facts old new = (files : List (List Fact)) → All AreLawful (facts ∷ files)
     → HasRegisters zone files old → HasRegisters zone (facts ∷ files) new
 
 -- A collected accounting register (a named counter) `old` became `new` when a database file with
--- the records `facts` was added. If `old` has the data of the earlier files, then `new` has the
--- data of the earlier files and the added file.
+-- the records `facts` was added. If `old` has the data (meters and energies by day) of the earlier
+-- files, then `new` has those of the earlier files and the added file.
 pub record HasNext (facts : List Fact) (old new : KeptRegister) : Type 0 where
   pub name : new.name ≡ old.name
   pub files : AllJoin span.All old.name facts old.files new.files None
@@ -99,8 +101,9 @@ pub record HasNext (facts : List Fact) (old new : KeptRegister) : Type 0 where
 -- Registers (named counters) of a database file with the records `facts` were appended to the
 -- collected registers `old`, which yields `new`.
 --
--- If each register in `old` has the data of the earlier files and of this file, then each register
--- in `new` has these data too. The earlier files must be lawful.
+-- If each accounting register (a named counter) in `old` has the data of the earlier files and the
+-- file `facts`, then each register in `new` has them too. The earlier files must be lawful (the
+-- rules for records accept each record).
 pub record AddsMore (zone : Zone) (facts : List Fact) (old new : List KeptRegister) : Type 0 where
   pub adds : (files : List (List Fact)) → All AreLawful files
       → Collects zone files (facts ∷ files) old → Collects zone files (facts ∷ files) new
@@ -111,8 +114,8 @@ pub record AddsMore (zone : Zone) (facts : List Fact) (old new : List KeptRegist
 abbrev pub AreRecorded : (registers : List Register) → (facts : List Fact) → Type 0
 AreRecorded registers facts = All (λ (it : Register). is_recorded it.name facts ≡ true) registers
 
--- True if each accounting register (a named counter) in the list `registers` is among the collected
--- registers.
+-- True if each accounting register (a named counter) in the list `registers` is among the registers
+-- collected from several database files.
 abbrev pub AreKept : (registers : List Register) → List KeptRegister → Type 0
 AreKept registers kept = All (λ (it : Register). is_kept it.name kept ≡ true) registers
 
@@ -131,8 +134,8 @@ pub record AddsDevices (zone : Zone) (facts : List Fact) (devices : List Device)
   pub more : AddsMore zone facts old new
   pub listed : All (λ (it : Device). AreKept (registers_of facts it.name) new) devices
 
--- The database file with the records `facts` does not continue the data of one of the collected
--- accounting registers (named counters), for the reason `why`.
+-- The database file with the records `facts` does not continue the meter history of one of the
+-- collected accounting registers (named counters), for the reason `why`.
 pub record KeptDoesNotJoin (facts : List Fact) (kept : List KeptRegister) (why : Unjoined) :
     Type 0 where
   pub one : KeptRegister
@@ -152,8 +155,8 @@ pub record NewDoesNotJoin (zone : Zone) (facts : List Fact) (kept : List KeptReg
   pub parts : DoesNotJoin span.All name facts none why
 
 -- The database file with the records `facts` cannot be added to the collected accounting registers
--- (named counters). For one register, the file does not continue the earlier files, for the reason
--- `why`.
+-- (named counters). For one register, the file does not continue the meter history of the earlier
+-- files, for the reason `why`.
 abbrev pub FileDoesNotJoin : Zone → (facts : List Fact) → List KeptRegister → Unjoined → Type 0
 FileDoesNotJoin zone facts kept why =
     KeptDoesNotJoin facts kept why ⊎ NewDoesNotJoin zone facts kept why
@@ -166,9 +169,9 @@ CollectedDaysAreSums = (zone : Zone) (files : List (List Fact)) (kept : List Kep
     → HasRegisters zone files kept → Contains kept one → days.fold ≡ one.files.days.fold
     → AreSumOf zone (rows_over one.name files) days
 
--- States what the collected accounting registers (named counters) contain after database files were
--- added, and why a file cannot be added. This is the model of `KeptRegisters` for the trait
--- `Keeping`.
+-- The model of `KeptRegisters`, the accounting registers (named counters) collected from several
+-- database files. It states what they contain after files were added, and why a file cannot be
+-- added.
 abbrev pub registers_kept : keepings.Ghosts KeptRegisters
 registers_kept = record {
   keeps = λ zone range register files kept.
@@ -177,8 +180,9 @@ registers_kept = record {
       FileDoesNotJoin kept.zone facts (registers_in kept) why;
 }
 
--- The result `None` means that the new file's meters of this register (a named counter) continue or
--- follow those of the earlier database files. Any other result has two meters that conflict.
+-- The contract of comparing a new file with a collected register (a named counter). The result
+-- `None` means that each meter of the register in this file continues an earlier file's meter, or
+-- begins after the earlier meters were closed. Any other result has two meters that conflict.
 abbrev pub HoldMeters : KeptRegister → List Fact → Option Unjoined → Type 0
 HoldMeters kept facts None = (all : List Installation)
     × AddMeters kept.files.meters.items (installations_of facts kept.name) all
@@ -187,9 +191,10 @@ HoldMeters kept facts (Some (unjoined.Apart apart)) =
     AreApart kept.files.meters.items (installations_of facts kept.name) apart
 HoldMeters kept facts (Some unjoined.OutOfTurn) = ⊥
 
--- The result `None` means that the new file's meters continue or follow the earlier meters. It also
--- means that the new file records the register (a named counter) if an earlier file does. Any other
--- result is the reason why one of these two statements is false.
+-- The contract of comparing a new file with a collected register (a named counter). `None` means
+-- that the file's meters continue the earlier meters or begin after these were closed, and that the
+-- file records the register if an earlier file does. Any other result is the reason why one of
+-- these two statements is false.
 abbrev pub HoldsFile : KeptRegister → List Fact → Option Unjoined → Type 0
 HoldsFile kept facts None =
     (kept.files.is_recorded ≡ true → is_recorded kept.name facts ≡ true)
@@ -198,9 +203,9 @@ HoldsFile kept facts (Some unjoined.NotRecorded) =
     (kept.files.is_recorded ≡ true) × (is_recorded kept.name facts ≡ false)
 HoldsFile kept facts (Some why) = HoldMeters kept facts (Some why)
 
--- The result `None` means that the new file continues the earlier files for each of the collected
--- accounting registers (named counters). Any other result is the reason why the file does not
--- continue them for one of these registers.
+-- The contract of comparing a new file with all collected registers (named counters). `None` means
+-- that the file continues the meter history of the earlier files for each of these registers. Any
+-- other result is the reason why the file does not continue this history for one of them.
 abbrev pub HoldAll : List KeptRegister → List Fact → Option Unjoined → Type 0
 HoldAll kept facts None = All (λ (one : KeptRegister). HoldsFile one facts None) kept
 HoldAll kept facts (Some why) =

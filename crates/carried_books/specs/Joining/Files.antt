@@ -1,7 +1,8 @@
--- An accounting register (a named counter) over the database files of one office. The files join if
--- together they have one history of each meter.
+-- An accounting register (a named counter) over several successive database files. The files join
+-- if together they have one history of each meter.
 --
--- A file is represented by its records, and lists of files have the latest file first.
+-- A database file is represented by its records. A list of database files has the latest file
+-- first.
 use Rattle.std.specs.Prelude.{◌≡◌, ℕ, Bool, true, false, List, [], ◌∷◌, ◌++◌, Option, Some, None, is_some}
 use Rattle.std.specs.List.{list_any}
 use Rattle.interval_core.specs.Fold.{HasTaken}
@@ -32,14 +33,14 @@ is_recorded register facts = is_some (register_of facts register)
 abbrev pub is_recorded_in : (register : List ℕ) → (files : List (List Fact)) → Bool
 is_recorded_in register files = list_any (is_recorded register) files
 
--- The energy intervals of an accounting register (a named counter) in all database files of an
--- office, in the order of the files.
+-- The energy intervals (energies of quarter hours) of an accounting register (a named counter) in
+-- successive database files, in the order of the files.
 abbrev pub rows_over : (register : List ℕ) → (files : List (List Fact)) → List Share
 rows_over register [] = []
 rows_over register (facts ∷ files) = rows_over register files ++ rows_of_register facts register
 
--- The energy intervals of an accounting register (a named counter) in all database files, limited
--- to a span of time.
+-- The energy intervals (energies of quarter hours) of an accounting register (a named counter) in
+-- all database files, limited to a span of time.
 abbrev pub rows_over_within : Span → (register : List ℕ) → (files : List (List Fact)) → List Share
 rows_over_within span register [] = []
 rows_over_within span register (facts ∷ files) =
@@ -63,9 +64,9 @@ StaysRecorded register (facts ∷ files) =
 -- Several database files join for an accounting register (a named counter): together they have one
 -- history of the register's meters `meters`.
 --
--- If one file records the accounting register, then all later files record this register. Each
--- meter of a file continues a meter of the previous files, or begins after their meters were
--- closed.
+-- If one file records the accounting register (a named counter), then all later files record this
+-- register. Each meter of a file continues a meter of the previous files, or begins after the
+-- earlier meters were closed.
 pub record AreJoined (register : List ℕ) (files : List (List Fact)) (meters : List Installation) :
     Type 0 where
   pub recorded : StaysRecorded register files
@@ -75,7 +76,8 @@ pub record AreJoined (register : List ℕ) (files : List (List Fact)) (meters : 
 -- register (a named counter). These data are the register's meters, and the sum of its intervals in
 -- a span of time by civil day.
 --
--- Nothing is stated of the sum if the energy of the intervals does not fit in 128 bits.
+-- Nothing is stated of the sum of the energy intervals of a register (a named counter) by civil day
+-- if their total energy does not fit in 128 bits.
 pub record HasJoined (zone : Zone) (span : Span) (register : List ℕ) (files : List (List Fact))
     (kept : JoinedFiles) : Type 0 where
   pub recorded : kept.is_recorded ≡ is_recorded_in register files
@@ -85,18 +87,18 @@ pub record HasJoined (zone : Zone) (span : Span) (register : List ℕ) (files : 
   pub days : HasNumber (rows_over_within span register files)
       → HasTaken zone (rows_over_within span register files) kept.days.fold
 
--- States that the file's energy intervals were added to the energies by day, or that one of the
--- intervals was out of order. An interval is out of order if it starts before an interval added
--- earlier, or after the largest supported timestamp.
+-- States that a database file's energy intervals (energies of quarter hours) were added to the
+-- energies by day, or that one of the intervals was out of order. An interval is out of order if it
+-- starts before an interval added earlier, or after the largest supported timestamp.
 abbrev pub AddDays : (rows : List Share) → (old new : JoinedDays) → Option Unjoined → Type 0
 AddDays rows old new None = TakesAll TakesShare old rows new × (new.fault ≡ None)
 AddDays rows old new (Some unjoined.OutOfTurn) =
     TakesAll TakesShare old rows new × (new.fault ≡ Some OutOfTurn)
 AddDays rows old new (Some why) = ⊥
 
--- A database file continues the earlier files. The file records the register if an earlier file
--- does, and the file's meters continue or follow the earlier meters. The file's energy intervals
--- were added to the collected ones.
+-- A database file continues the meter history of the earlier files. The file records the register
+-- (a named counter) if an earlier file does, and the file's meters continue the earlier meters or
+-- begin after these were closed. The file's energy intervals were added to the collected ones.
 pub record JoinsFile (span : Span) (register : List ℕ) (facts : List Fact)
     (old new : JoinedFiles) : Type 0 where
   pub recorded : new.is_recorded ≡ is_recorded register facts
@@ -104,8 +106,9 @@ pub record JoinsFile (span : Span) (register : List ℕ) (facts : List Fact)
   pub meters : AddMeters old.meters.items (installations_of facts register) new.meters.items
   pub days : AddDays (rows_within span (rows_of_register facts register)) old.days new.days None
 
--- One of the energy intervals of a database file starts before an interval that was added earlier,
--- from this file or an earlier one. Or the interval starts after the largest supported timestamp.
+-- One of the energy intervals (energies of quarter hours) of a database file starts before an
+-- interval that was added earlier, from this file or an earlier one. Or the interval starts after
+-- the largest supported timestamp.
 pub record IsOutOfTurn (span : Span) (register : List ℕ) (facts : List Fact)
     (old : JoinedFiles) : Type 0 where
   pub days : JoinedDays
@@ -119,8 +122,9 @@ pub record AddsBoth (span : Span) (register : List ℕ) (facts : List Fact)
   pub meters : AddMeters old.meters.items (installations_of facts register) new.meters.items
   pub days : AddDays (rows_within span (rows_of_register facts register)) old.days new.days None
 
--- The meters and the energy intervals of a database file were added to the collected data.
--- Otherwise the result is the reason why the file does not continue the earlier files.
+-- If adding a database file returns `None`, the file's meters and energy intervals were added to
+-- the collected data. Any other result is the reason why the file does not continue the meter
+-- history of the earlier files.
 abbrev pub AddsRows : Span → (register : List ℕ) → (facts : List Fact) → (old new : JoinedFiles)
     → Option Unjoined → Type 0
 AddsRows span register facts old new None = AddsBoth span register facts old new
@@ -130,8 +134,9 @@ AddsRows span register facts old new (Some (unjoined.Apart apart)) =
 AddsRows span register facts old new (Some unjoined.OutOfTurn) =
     IsOutOfTurn span register facts old
 
--- The new file continues the history of the register (a named counter) in the earlier files.
--- Otherwise the result is the reason why the file does not.
+-- If adding a database file returns `None`, the file continues the history of the register (a named
+-- counter) in the earlier files. Any other result is the reason why the file does not continue this
+-- history.
 abbrev pub Joins : Span → (register : List ℕ) → (facts : List Fact) → (old new : JoinedFiles)
     → Option Unjoined → Type 0
 Joins span register facts old new None = JoinsFile span register facts old new
@@ -149,9 +154,9 @@ abbrev pub DoesNotJoin : Span → (register : List ℕ) → (facts : List Fact) 
 DoesNotJoin span register facts old why =
     (new : JoinedFiles) × Joins span register facts old new (Some why)
 
--- Suppose that the result is `None` and the earlier database files join (have one history of the
--- register (a named counter)). Then these files and the new file join too. For any other result,
--- nothing is stated.
+-- Suppose that adding a database file returns `None`, and the earlier files join (have one history
+-- of the register (a named counter)). Then these files and the added file join too. For any other
+-- result, nothing is stated.
 abbrev pub AllJoin : Span → (register : List ℕ) → (facts : List Fact) → (old new : JoinedFiles)
     → Option Unjoined → Type 0
 AllJoin span register facts old new None = (zone : Zone) (files : List (List Fact))

@@ -2,7 +2,7 @@
 -- Each meter of the next file must continue an earlier meter, or begin after the earlier meters
 -- were closed.
 --
--- Lists have the first installed meter first.
+-- Each list of meters of a register (a named counter) is in the order of their installation.
 use Rattle.std.specs.Prelude.{◌≡◌, ◌⊎◌, ◌+◌, ◌-◌, ◌^◌, nat_le, min, Bool, true, false, not, ◌&&◌, List, [], ◌∷◌, ◌++◌, All, Contains, Option, Some, None}
 use Rattle.meter_journal.specs.Audit.CarriedFiles.{GoesOnAs}
 use Rattle.office_events.specs.declared.questions.Installation.{Installation}
@@ -13,9 +13,9 @@ use Rattle.carried_books.specs.declared.joining.meters.Apart.{Apart}
 
 -- The meter `stands` of an earlier database file continues as the meter `row` of a later file.
 --
--- The two meters have the same name, range and ceiling (maximum power). The meter `stands` is open,
--- and its state equals the opening (first entry) of `row`. The audit of several files requires the
--- same.
+-- A meter of an earlier file (`stands`) continues as `row` if both have the same name, range and
+-- ceiling (maximum power). In addition, `stands` is open, and its state equals the opening (first
+-- entry) of `row`. The audit of several database files requires the same of a meter that continues.
 pub record GoesOn (stands row : Installation) : Type 0 where
   pub name : row.opening.meter ≡ stands.opening.meter
   pub goes : GoesOnAs (installed stands.opening) stands.last stands.ended (installed row.opening)
@@ -37,8 +37,8 @@ is_before stands row =
     stands.ended
     && (nat_le stands.last.at row.opening.at && not (same row.opening.meter stands.opening.meter))
 
--- States that the meter `row` continues the last meter in the list `known`. Instead of these two,
--- the list `after` has one meter over all database files.
+-- States that the meter `row` continues the last meter in the list `known`. In the list `after`,
+-- one meter over all database files replaces these two meters.
 pub record IsOne (known : List Installation) (row : Installation) (after : List Installation) :
     Type 0 where
   pub before : List Installation
@@ -73,37 +73,38 @@ pub record EndsOtherwise (known : List Installation) (row : Installation) : Type
 abbrev pub NoneGoesOn : (known : List Installation) → Installation → Type 0
 NoneGoesOn known row = (known ≡ []) ⊎ EndsOtherwise known row
 
--- The meter `row` does not continue the last of the earlier meters in `known`. The meter in `apart`
--- was not closed before `row` began, or has the name of `row`.
+-- The meter `row` does not continue the last of the earlier meters in `known`. The earlier meter
+-- that `apart` names was not closed before `row` began, or has the name of `row`.
 pub record IsApart (known : List Installation) (row : Installation) (apart : Apart) : Type 0 where
   pub begins : apart.begins ≡ row
   pub among : Contains known apart.stands
   pub not_before : is_before apart.stands row ≡ false
   pub other : NoneGoesOn known row
 
--- The meter `row` is appended to the list `known`, because all meters in the list were closed
--- before `row` began. Otherwise the result has a meter that was not closed before `row` began, or
--- that has the name of `row`.
+-- If adding the meter `row` returns `None`, `row` is appended to `known`, because all meters in
+-- this list were closed before `row` began. Any other result has a meter that was not closed before
+-- `row` began, or that has the name of `row`.
 abbrev pub AddsNext : (known : List Installation) → Installation → (after : List Installation)
     → Option Apart → Type 0
 AddsNext known row after None = IsNext known row after
 AddsNext known row after (Some apart) =
     (apart.begins ≡ row) × Contains known apart.stands × (is_before apart.stands row ≡ false)
 
--- The meter `row` continues the last of the earlier meters in `known`, or begins after all of them
--- were closed. Otherwise the result has a meter with which `row` conflicts.
+-- If adding the meter `row` returns `None`, `row` continues the last of the earlier meters in
+-- `known`, or begins after all of them were closed. Any other result has an earlier meter that was
+-- not closed before `row` began, or that has the name of `row`.
 abbrev pub AddsOrIsApart : (known : List Installation) → Installation
     → (after : List Installation) → Option Apart → Type 0
 AddsOrIsApart known row after None = AddsMeter known row after
 AddsOrIsApart known row after (Some apart) = IsApart known row apart
 
--- Each meter in `listed` continues or follows the meters before it, beginning with the earlier
--- meters in `known`.
+-- Each meter in `listed` continues the meter before it, or begins after the meters before it were
+-- closed. The first meter in `listed` is compared with the earlier meters in `known`.
 abbrev pub AddMeters : (known listed after : List Installation) → Type 0
 AddMeters known listed after = TakesAll AddsMeter known listed after
 
--- Some meters in `listed` were added to those in `known`, and then a meter was found that neither
--- continues nor follows the earlier meters.
+-- Some meters in `listed` were added to those in `known`. Then a meter was found that does not
+-- continue an earlier meter, and does not begin after all earlier meters were closed.
 pub record AreApart (known listed : List Installation) (apart : Apart) : Type 0 where
   pub mid : List Installation
   pub begun : TakesFirst AddsMeter known listed mid
@@ -111,8 +112,9 @@ pub record AreApart (known listed : List Installation) (apart : Apart) : Type 0 
   pub among : Contains listed row
   pub is : IsApart mid row apart
 
--- All meters in `listed` were added to those in `known`. Otherwise the result has a later meter,
--- and an earlier meter with which the later meter conflicts.
+-- If adding the meters in `listed` returns `None`, all of them were added to those in `known`. Any
+-- other result has a later meter, and an earlier meter with which the later meter conflicts (they
+-- overlap in time or have one name).
 abbrev pub AddOrAreApart : (known listed after : List Installation) → Option Apart → Type 0
 AddOrAreApart known listed after None = AddMeters known listed after
 AddOrAreApart known listed after (Some apart) = AreApart known listed apart

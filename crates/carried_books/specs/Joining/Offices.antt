@@ -1,7 +1,8 @@
 -- The energies of a register (a named counter) by civil day, over earlier database files and the
 -- file of the running program.
 --
--- The energy intervals of the earlier files were already added up, in order.
+-- The energy intervals of the earlier database files were added up by civil day, in the order of
+-- the files, before those of the current file are added.
 use Rattle.std.specs.Prelude.{◌≡◌, ◌⊎◌, ℕ, List, ◌++◌, map, All, Option, Some, Result, Ok, Err, MatchResult, OnOk}
 use Rattle.std.specs.List.{flat_map}
 use Rattle.std.specs.declared.alloc.Global.{Global}
@@ -36,13 +37,13 @@ use Rattle.carried_books.specs.declared.joining.days.EarlierDays.{EarlierDays}
 use Rattle.carried_books.specs.declared.joining.days.JoinedDays.{JoinedDays}
 
 -- The records of a database file have this opening (a meter's first entry), and a search for the
--- meter's name finds it.
+-- meter's name finds this opening.
 abbrev pub IsInstalled : List Fact → Opening → Type 0
 IsInstalled facts opening = opening_of facts opening.meter ≡ Some opening
 
--- The result of adding up energy intervals over a span of time. A success means that the intervals
--- of the meters with the openings (first entries) in `openings` were added, meter by meter. An
--- error means that the database failed.
+-- The result of adding up energy intervals (energies of quarter hours) over a span of time. A
+-- success means that the intervals of the meters with the openings (first entries) in `openings`
+-- were added, meter by meter. An error means that the database failed.
 abbrev pub TakesMeters : List Fact → List Opening → Span → (before after : Failures)
     → (from to : JoinedDays) → Result (Unit {0}) Refusal → Type 0
 TakesMeters facts openings span before after from to result =
@@ -63,9 +64,9 @@ pub record AsksMeters {B : Type 0} (ledger : B → Ledger) (old new : Office B)
       → TakesMeters (facts_of past) openings span
       (failures_of ledger old) (failures_of ledger new) from to result)
 
--- The result of adding up the energy intervals of an accounting register (a named counter). A
--- success means that the intervals in a span of time were added up. An error means that no register
--- has the name, or that the database failed.
+-- The result of adding up the energy intervals (energies of quarter hours) of an accounting
+-- register (a named counter). A success means that the intervals in a span of time were added up.
+-- An error means that no register has the name, or that the database failed.
 pub record TakesRegister (facts : List Fact) (register : List ℕ) (span : Span)
     (before after : Failures) (from to : JoinedDays) (result : Result (Unit {0}) Refusal) :
     Type 0 where
@@ -81,10 +82,12 @@ AsksRegister ledger old new register span from to result = After ledger old new 
     TakesRegister (facts_of past) register span (failures_of ledger old) (failures_of ledger new)
     from to result)
 
--- The result has the energy by day of the intervals in `rows`, or the reason for a refusal.
+-- The result of a request for the energy of a register (a named counter) by day: the energy of the
+-- intervals in `rows`, or the reason for a refusal.
 --
--- The reasons are: no register has the name, the database or memory failed, the program's event
--- handling had stopped after a failure, or an interval is out of order.
+-- A request for the energy of a register (a named counter) by day is refused for one of four
+-- reasons. No register has the name, the database or memory failed, the program's event handling
+-- had stopped after a failure, or an interval is out of order.
 abbrev pub ListsOver : Zone → (rows : List Share) → (there : Option (Unit {0}))
     → (before after : Failures) → Result (Vec DayTotal Global) Refusal → Type 0
 ListsOver zone rows there before after (Ok days) =
@@ -93,16 +96,16 @@ ListsOver zone rows there before after (Err why) =
     IsFound {T = Unit {0}} (there ≡ Some tt) there before after (Err why)
     ⊎ ((why ≡ refusal.Store store.NoDay) × (after ≡ before) × AreOutOfTurn rows)
 
--- The energy intervals of earlier database files, followed by those of the current file in a span
--- of time.
+-- The energy intervals of a register (a named counter) in all files: those of earlier database
+-- files, followed by those of the current file that start in a span of time.
 abbrev pub rows_of_both : Span → (earlier : List Share) → List Fact → (register : List ℕ)
     → List Share
 rows_of_both span earlier facts register =
     earlier ++ rows_within span (rows_of_register facts register)
 
--- States that, if the total energy fits in 128 bits, the result has the energy by day of an
--- accounting register (a named counter). The energy is that in earlier database files and in the
--- events that the running program accepted.
+-- States that, if the total energy fits in 128 bits, a successful request for an accounting
+-- register (a named counter) returns its energy by day. The energy is that in earlier database
+-- files and in the events that the running program accepted.
 abbrev pub ReportsDaysOver : {B : Type 0} → (B → Ledger) → (old new : Office B) → Zone
     → (earlier : EarlierDays) → (register : List ℕ) → Span
     → Result (Vec DayTotal Global) Refusal → Type 0
@@ -113,9 +116,9 @@ ReportsDaysOver ledger old new zone earlier register span result = After ledger 
     (is_there (register_of (facts_of past) register))
     (failures_of ledger old) (failures_of ledger new) result)
 
--- The refusal of a request for which memory ran out. If there is another failure (no register has
--- the name, the database failed, or the program had stopped), the refusal reports that failure.
--- Otherwise the refusal is `Memory`.
+-- The refusal of a request for the energy of a register (a named counter) if memory ran out. If no
+-- register has the name, the database failed or the program had stopped, the refusal reports this
+-- failure. Without such a failure, the refusal is `Memory`.
 abbrev pub LacksMemory : {B : Type 0} → (B → Ledger) → (old new : Office B)
     → (register : List ℕ) → Refusal → Type 0
 LacksMemory ledger old new register why = After ledger old new (λ past.

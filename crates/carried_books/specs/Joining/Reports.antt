@@ -19,16 +19,17 @@ use Rattle.carried_books.specs.Joining.Days.{HasNumber}
 use Rattle.carried_books.specs.Joining.Files.{HasJoined, rows_over}
 use Rattle.carried_books.specs.declared.joining.files.JoinedFiles.{JoinedFiles}
 
--- True if `days` are the civil days in the range, with the energy of the register's intervals in
--- all database files.
+-- True if `days` are the civil days in the requested range, with the energy of the intervals of an
+-- accounting register (a named counter) in all database files.
 pub record AreDaysOver (zone : Zone) (register : List ℕ) (files : List (List Fact))
     (range : DayRange) (days : List DayAccount) : Type 0 where
   pub all : List DayAccount
   pub are : AreAccounts zone (rows_over register files) all
   pub asked : days ≡ accounts_within range all
 
--- The text of a register's report over all database files. The text has the register's energy by
--- day in the range, by the clocks of the time zone, in the requested units and format.
+-- The text of the report of an accounting register (a named counter) over all database files. The
+-- text has the register's energy by day in the range, by the clocks of the time zone, in the
+-- requested units and format.
 abbrev pub IsReportOver : Zone → (register : List ℕ) → (files : List (List Fact)) → ReportForm
     → (text : List ℕ) → Type 0
 IsReportOver zone register files form text = (days : List DayTotal)
@@ -53,7 +54,8 @@ ReportsJoined w joined form had holds status =
     → HasNumber (rows_over register files)
     → PrintsOver zone register files form status (w.contents had) (w.contents holds)
 
--- The theorem that a report over one database file has the register's energy by day in this file.
+-- The theorem that a report over one database file has the energy by day of the accounting register
+-- (a named counter) in this file.
 abbrev pub OneFileReportsItsDays : Type 0
 OneFileReportsItsDays = (zone : Zone) (register : List ℕ) (facts : List Fact) (range : DayRange)
     (days : List DayAccount)
@@ -63,8 +65,9 @@ OneFileReportsItsDays = (zone : Zone) (register : List ℕ) (facts : List Fact) 
 -- The theorem that a report of a meter's energy by day over two database files equals the report
 -- over a single file.
 --
--- The second file continues the meter where the first file ended. The single file has the complete
--- history of the meter.
+-- The theorem on a meter's report over two database files assumes that the second file continues
+-- the meter from its state at the end of the first. The single file, whose report equals that over
+-- both files, has the complete history of the meter.
 abbrev pub BothFilesTellTheJoinedDays : Type 0
 BothFilesTellTheJoinedDays = (zone : Zone) (old new both : List Share) (accounts : List DayAccount)
     → AreCountedOnce old new both

@@ -1,7 +1,7 @@
 -- The latest meter of an accounting register (a named counter) over earlier database files and the
 -- file of the running program.
 --
--- Lists have the first installed meter first.
+-- Each list of meters of a register (a named counter) is in the order of their installation.
 use Rattle.std.specs.Prelude.{◌≡◌, ◌-◌, Bool, not, ◌&&◌, if◌then◌else◌, ℕ, length, List, [], ◌∷◌, Option, Some, None}
 use Rattle.std.specs.List.{slice_get}
 use Rattle.std.specs.Option.{option_map}
@@ -23,7 +23,7 @@ earlier_meters (one ∷ more) register =
     if same one.name register then one.meters.items else earlier_meters more register
 
 -- True if the meter `stands` was still open at the end of the earlier database files, and the
--- current file's meter `row` has its name.
+-- current file's meter `row` has the name of `stands`.
 abbrev pub is_left : (stands row : Installation) → Bool
 is_left stands row = not stands.ended && same row.opening.meter stands.opening.meter
 
@@ -40,7 +40,8 @@ of_office row = record { meter = row; earlier = None }
 -- The latest meter of a register (a named counter). The current database file has the meter `row`,
 -- and the last meter of the earlier files is `stands`.
 --
--- If `row` continues `stands`, the result is one meter over all files.
+-- If the current file's meter `row` continues the earlier files' meter `stands`, the register's
+-- latest meter is one meter over all database files.
 abbrev pub of_both : (stands row : Installation) → LatestMeter
 of_both stands row =
     if is_left stands row
@@ -70,9 +71,9 @@ latest_meter earlier row = latest (last_of earlier) row
 abbrev pub meter_of : LatestMeter → Installation
 meter_of reported = reported.meter
 
--- The theorem on the latest meter of an accounting register (a named counter). If the current
--- file's meters continue or follow those of the earlier files, then the reported meter is the last
--- meter of all files.
+-- The theorem on the latest meter of an accounting register (a named counter). Suppose that the
+-- current file's meters continue those of the earlier files, or begin after these were closed. Then
+-- the reported meter is the last meter of all files.
 abbrev pub LatestIsOfAllFiles : Type 0
 LatestIsOfAllFiles = (register : List ℕ) (facts : List Fact) (earlier all : List Installation)
     → AreLawful facts

@@ -1,7 +1,8 @@
--- Statements of an accounting register's meters over several database files, on a range of days. A
--- statement has the numbers against which a bill is checked.
+-- Statements of the meters of an accounting register (a named counter) over several database files,
+-- on a range of days. A statement has the numbers against which a bill is checked.
 --
--- A file is represented by its records, and lists of files have the latest file first.
+-- A database file is represented by its records. A list of database files has the latest file
+-- first.
 use Rattle.std.specs.Prelude.{◌≡◌, ◌⊎◌, ℕ, ◌+◌, ◌-◌, ◌^◌, min, Bool, true, false, List, [], ◌∷◌, ◌++◌, map, filter, drop, All, Option, Some, None}
 use Rattle.std.specs.declared.io.Write as writers
 use Rattle.command_io.specs.declared.status.ExitStatus.{ExitStatus}
@@ -57,8 +58,9 @@ meter_in facts row = record {
 
 -- The entries of a meter in one database file that no earlier file has.
 --
--- If the meter continues from an earlier file, its opening (first entry) is left out, since it
--- repeats the last valid entry of that file.
+-- The opening (first entry) of a meter does not count as a new entry of a database file if the
+-- meter continues from an earlier file. The opening then repeats the last valid (not voided) entry
+-- of the earlier file.
 abbrev pub own_entries : (goes_on : Bool) → List MeterEntry → List MeterEntry
 own_entries true entries = drop 1 entries
 own_entries false entries = entries
@@ -73,8 +75,8 @@ both_of one next = record {
   holds = one.holds ++ next.holds;
 }
 
--- States that the meter `next` continues the last meter in the list `known`. Instead of these two,
--- the list `after` has one meter over all database files.
+-- States that the meter `next` continues the last meter in the list `known`. In the list `after`,
+-- one meter over all database files replaces these two meters.
 pub record IsOneOver (known : List MeterOver) (next : MeterOver) (after : List MeterOver) :
     Type 0 where
   pub before : List MeterOver
@@ -102,8 +104,8 @@ parts_over register [] = []
 parts_over register (facts ∷ files) =
     parts_over register files ++ map (meter_in facts) (installations_of facts register)
 
--- The database files join for the accounting register (together they have one history of its
--- meters), and `meters` are its meters over all files.
+-- The database files join for the accounting register (a named counter): together they have one
+-- history of the register's meters. The list `meters` has these meters, each over all files.
 --
 -- A meter that the latest file does not have keeps its data from the earlier files.
 pub record AreMetersOver (register : List ℕ) (files : List (List Fact)) (meters : List MeterOver) :
@@ -113,9 +115,9 @@ pub record AreMetersOver (register : List ℕ) (files : List (List Fact)) (meter
 
 -- The statement of a meter over all database files, to check a bill.
 --
--- The statement has the first and last entry and the corrections in the range of days. The energy
--- is that of the intervals that start in the range. The counts of rejected readings are those in
--- the range.
+-- The statement of a meter has the meter's first and last entry and its corrections in the range of
+-- days. The energy is that of the intervals that start in the range. The counts of rejected
+-- readings are those in the range.
 abbrev pub statement_over : Zone → DayRange → MeterOver → MeterStatement
 statement_over zone range m = record {
   meter = m.stands.opening.meter;
@@ -130,8 +132,8 @@ abbrev pub statements_over : Zone → DayRange → List MeterOver → List Meter
 statements_over zone range meters =
     map (statement_over zone range) (filter (λ m. was_installed zone range m.stands) meters)
 
--- True if `text` has the statements (reports) of the accounting register's meters over the database
--- files.
+-- True if `text` has the statements (reports) of the meters of an accounting register (a named
+-- counter) over the database files `files`.
 abbrev pub IsStatementOver : Zone → (register : List ℕ) → (files : List (List Fact))
     → StatementForm → (text : List ℕ) → Type 0
 IsStatementOver zone register files form text = (meters : List MeterOver)
@@ -156,13 +158,13 @@ stands_of kept = kept.stands
 abbrev pub reported_of : KeptMeter → MeterStatement
 reported_of kept = kept.reported
 
--- The statements (reports) of the meters in `kept` that were installed in the range.
+-- The statements (reports) of those meters in `kept` that were installed in the range of days.
 abbrev pub rows_of_those : Zone → DayRange → List KeptMeter → List MeterStatement
 rows_of_those zone range kept =
     map reported_of (filter (λ one. was_installed zone range one.stands) kept)
 
--- True if `kept` has the statements (reports) of a register's meters over files that join (have one
--- history), on the days of a range.
+-- True if `kept` has the statements (reports) of the meters of a register (a named counter) over
+-- files that join (have one history), on the days of a range.
 pub record HasStated (zone : Zone) (range : DayRange) (register : List ℕ)
     (files : List (List Fact)) (kept : JoinedStatement) : Type 0 where
   pub recorded : kept.is_recorded ≡ is_recorded_in register files
@@ -177,8 +179,9 @@ abbrev pub TalliesOn : Zone → DayRange → List MeterEntry → (old new : Entr
 TalliesOn zone range entries old new = (before : List MeterEntry)
     → old ≡ tally_of zone range before → new ≡ tally_of zone range (before ++ entries)
 
--- The statement (report) of a meter in one database file. The tally of entries continues the tally
--- of the earlier files. The energy and rejected readings are those of this file alone.
+-- The statement (report) of a meter in one database file. The tally (first and last entry,
+-- corrections) continues the tally of the earlier files. The energy and rejected readings are those
+-- of this file alone.
 pub record ReportsPart (zone : Zone) (range : DayRange) (meter : List ℕ) (goes_on : Bool)
     (facts : List Fact) (begun : EntryTally) (reported : MeterStatement) : Type 0 where
   pub meter_is : reported.meter ≡ meter
@@ -212,8 +215,8 @@ with_part kept row part = record {
   };
 }
 
--- States that, if the result is `None`, the data of the meters in `listed` (those of one more file)
--- were added to the collected data. For any other result (two conflicting meters), states nothing.
+-- States that, if adding one more file's meters (those in `listed`) returns `None`, their data were
+-- added to the collected data. For any other result (two conflicting meters), states nothing.
 abbrev pub ReportsAll : Zone → DayRange → (facts : List Fact) → (listed : List Installation)
     → (old new : List KeptMeter) → Option Apart → Type 0
 ReportsAll zone range facts listed old new None = (meters : List MeterOver)
@@ -222,19 +225,20 @@ ReportsAll zone range facts listed old new None = (meters : List MeterOver)
     × AreReported zone range new after
 ReportsAll zone range facts listed old new (Some apart) = Unit {0}
 
--- The meters of the database file were added to the collected meters. Otherwise the result has a
--- later meter, and an earlier meter with which the later meter conflicts.
+-- If adding the meters of a database file returns `None`, they were added to the collected meters.
+-- Any other result has a later meter, and an earlier meter with which the later meter conflicts
+-- (they overlap in time or have one name).
 abbrev pub AddsListed : Zone → DayRange → (facts : List Fact) → (listed : List Installation)
     → (old new : List KeptMeter) → Option Apart → Type 0
 AddsListed zone range facts listed old new apart =
     AddOrAreApart (map stands_of old) listed (map stands_of new) apart
     × ReportsAll zone range facts listed old new apart
 
--- The database file does not continue the earlier files. The reason is the same as that of a daily
--- report over the files.
+-- The database file does not continue the meter history of the earlier files, for a reason for
+-- which a report of daily energy rejects the file too.
 --
--- A statement (a report on meters) allows energy intervals out of order, since the statement only
--- needs their sum.
+-- A statement (a report on meters) allows energy intervals (energies of quarter hours) that are not
+-- in the order of time, since the statement only needs their sum.
 abbrev pub DoesNotGoOn : (register : List ℕ) → (facts : List Fact) → (old : JoinedStatement)
     → Unjoined → Type 0
 DoesNotGoOn register facts old unjoined.NotRecorded =
@@ -250,16 +254,16 @@ abbrev pub PrintsRows : {W : Type 0} → (contents : W → Option (List ℕ)) �
 PrintsRows contents form rows status had holds =
     IsReported (statement_text form rows) Fine status (contents had) (contents holds)
 
--- The statements (reports) on a register's meters over several database files were printed. If a
--- write failed, only a beginning of the text was printed.
+-- The statements (reports) on the meters of a register (a named counter) over several database
+-- files were printed. If a write failed, only a beginning of the text was printed.
 pub record PrintsStatement (zone : Zone) (register : List ℕ) (files : List (List Fact))
     (form : StatementForm) (status : ExitStatus) (had holds : Option (List ℕ)) : Type 0 where
   pub text : List ℕ
   pub is : IsStatementOver zone register files form text
   pub reported : IsReported text Fine status had holds
 
--- The statements (reports) on a register's meters were printed from the data of files that join
--- (have one history of the register), for the requested days.
+-- The statements (reports) on the meters of a register (a named counter) were printed for the
+-- requested days. The data are of files that join (have one history of the register).
 abbrev pub StatesJoined : {W : Type 0} → writers.Ghosts W → JoinedStatement → StatementForm
     → (had holds : W) → ExitStatus → Type 0
 StatesJoined w joined form had holds status =
@@ -276,8 +280,8 @@ OneFileStatesItsMeters = (zone : Zone) (range : DayRange) (register : List ℕ) 
     → statements_over zone range meters
     ≡ statements_of zone range facts (installations_of facts register)
 
--- A meter entry, with the index that this entry has in a single database file with the entries of
--- two files. In the single file, `count` entries of the old file come before this entry.
+-- A meter entry with its new index, after the entries of an old and a new file were put into one
+-- file. There, `count` entries of the old file come before the new file's first entry.
 abbrev pub moved_entry : (count : ℕ) → MeterEntry → MeterEntry
 moved_entry count (entry.Opening last) = entry.Opening last
 moved_entry count (entry.Later row sf) = entry.Later (moved_row count row) sf
@@ -285,7 +289,8 @@ moved_entry count (entry.Later row sf) = entry.Later (moved_row count row) sf
 -- True if `both` is the meter in one database file that has the history of the meter from the old
 -- and the new file.
 --
--- The new file's entries follow the old file's entries, and each quarter hour has the energy of
+-- Consider the single database file that has the meter's history of an old and a new file. In it,
+-- the new file's entries follow the old file's entries, and each quarter hour has the energy of
 -- both files. The new file's rejected readings follow those of the old file.
 pub record HaveOneJournal (old new both : MeterOver) : Type 0 where
   pub count : ℕ
@@ -298,8 +303,9 @@ pub record HaveOneJournal (old new both : MeterOver) : Type 0 where
 -- The theorem that the statement (report) of a meter over two database files equals the statement
 -- over a single file.
 --
--- The second file continues the meter where the first file ended. The single file has the meter's
--- history of both files.
+-- The theorem on a meter's statement (report) over two database files assumes that the second file
+-- continues the meter from its state at the end of the first. The single file, whose statement
+-- equals that over both files, has the meter's history of both.
 abbrev pub BothFilesStateTheJoinedMeter : Type 0
 BothFilesStateTheJoinedMeter = (zone : Zone) (range : DayRange) (old new both : MeterOver)
     → HaveOneJournal old new both

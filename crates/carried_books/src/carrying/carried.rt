@@ -1,4 +1,4 @@
-//! File rollover: begins a new database file in which an office's meters continue.
+//! File rollover: begins a new database file in which the open meters of an old file continue.
 ghost use Rattle.carried_books.specs.Carrying.Carried.{Carries, Follows, OnlyAsked};
 ghost use Rattle.carried_books.specs.Carrying.Feeding.{Passes};
 
@@ -10,8 +10,9 @@ use office_core::Office;
 use office_events::Refusal;
 use std::alloc::Global;
 
-// Feeds the commands of a plan to the office of a new database file. Returns the number of
-// installed meters, or the reason why the plan could not be followed.
+// Feeds the commands of a plan (the commands that set up a new database file) to the file's office
+// (event engine). Returns the number of installed meters, or the reason why a command could not be
+// executed.
 fn follow<N: Books>(office: &mut Office<N>, plan: Plan) -> Result<u64, CarryFault>
     ensures follows { Follows N.ledger plan office.old office.new result }
     ensures passes { Passes N.ledger office.old office.new }
@@ -25,13 +26,14 @@ fn follow<N: Books>(office: &mut Office<N>, plan: Plan) -> Result<u64, CarryFaul
     }
 }
 
-/// Sets up the office of a new database file from an old database file, and returns the number of
-/// installed meters.
+/// Sets up the office (event engine) of a new database file from an old database file, and returns
+/// the number of installed meters.
 ///
-/// The new office gets the devices, point lists and accounting registers (named counters) of the
-/// old office. Each open meter continues from its last valid (not voided) entry, up to the
-/// timestamp `until` if one is given. The meters are installed in the order of these entries. The
-/// old file is queried and not changed. All queries precede the first command to the new office.
+/// The new office (event engine) gets the devices, point lists and accounting registers (named
+/// counters) of the old database file. Each open meter continues from its last valid (not voided)
+/// entry, up to the timestamp `until` if one is given. The meters are installed in the order of
+/// these entries. The old file is queried and not changed. All queries precede the first command to
+/// the new office.
 pub fn carry_books<O: Books, N: Books>(
     alloc: Global,
     old: &mut O,

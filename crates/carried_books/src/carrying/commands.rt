@@ -1,5 +1,5 @@
-//! Commands that set up a new office (a new database file) with the devices, registers and open
-//! meters of an old one.
+//! Commands that set up a new office (a new database file) with the devices, accounting registers
+//! (named counters) and open meters of an old one.
 ghost use Rattle.std.specs.Prelude.{◌≡◌, ◌++◌, ◌∷◌, [], map, OnOk};
 ghost use Rattle.office_books.specs.Ledgers.{Consults, Finds};
 ghost use Rattle.carried_books.specs.Carrying.Adding.{Adds};
@@ -12,8 +12,8 @@ use office_events::{
 };
 use std::alloc::{AllocError, Global};
 
-/// A command with the timestamp at which the office of a new database file executes the command, in
-/// seconds since 1970-01-01 UTC.
+/// A command with the timestamp at which the office (event engine) of a new database file executes
+/// the command, in seconds since 1970-01-01 UTC.
 #[derive(Drop)]
 pub struct TimedCommand {
     pub at: u64,
@@ -190,7 +190,7 @@ fn add_installs(added: &mut Vec<TimedCommand>, openings: &[Opening]) -> Result<(
 }
 
 // Returns the timestamp at which devices are set up in the new database file: that of the first
-// meter's opening, or the latest recorded timestamp if no meter is installed.
+// meter's opening (first entry), or the latest recorded timestamp if no meter is installed.
 fn first_moment<B: Books>(books: &mut B, openings: &[Opening]) -> Result<u64, BooksFault>
     ensures found { Finds (B.ledger books.old) (B.ledger books.new) result
         (λ known at. at ≡ commands.first_moment known openings.now) }
@@ -202,9 +202,9 @@ fn first_moment<B: Books>(books: &mut B, openings: &[Opening]) -> Result<u64, Bo
     }
 }
 
-/// Returns the commands that set up the devices in `devices`, with the point lists and registers
-/// that the old database file has for these devices. The last commands install a meter for each
-/// opening (first entry) in `openings`.
+/// Returns the commands that set up the devices in `devices`, with the point lists and accounting
+/// registers (named counters) that the old database file has for them. The last commands install a
+/// meter for each opening (first entry) in `openings`.
 pub fn commands_for<B: Books>(
     alloc: Global,
     books: &mut B,

@@ -7,7 +7,7 @@ pub enum CarryFault {
     /// The database of the old file failed, or memory ran out. The refusal states which of the two
     /// happened.
     Old(Refusal),
-    /// The office of the new database file refused a command that sets up this file.
+    /// The office (event engine) of the new database file refused a command that sets up this file.
     New(Refusal),
     /// The open meter with this name has no valid (not voided) entry up to the requested timestamp.
     /// The new database file can't continue such a meter.

@@ -3,7 +3,7 @@ ghost use Rattle.carried_books.specs.Carrying.Recorded.{CommandsRecordTheSame};
 ghost use Rattle.carried_books.specs.Carrying.Recorded.{MetersGoOnWhereTheyStand};
 
 /// Proves that the commands for a new database file record exactly the old file's devices, point
-/// lists and registers, and the meters' openings (first entries).
+/// lists and accounting registers (named counters), and the meters' openings (first entries).
 pub fn commands_record_the_same()
     ensures { CommandsRecordTheSame }
 {}

@@ -16,7 +16,7 @@ use office_events::{Device, Installation, Name, Opening, Register};
 use std::alloc::{AllocError, Global};
 
 /// The openings (first entries) of all open meters in a new database file, or the name of a meter
-/// that has no valid entry to continue from.
+/// that has no valid (not voided) entry to continue from.
 #[derive(Drop)]
 pub enum Openings {
     All(Vec<Opening>),
@@ -24,8 +24,8 @@ pub enum Openings {
     NotYet(Name),
 }
 
-// Adds the open meter of an accounting register (a named counter) to a list of meters, if the
-// register has an open meter.
+// Adds the not yet closed meter of an accounting register (a named counter) to a list of meters, if
+// the register has such a meter.
 fn add_open<B: Books>(
     rows: &mut Vec<Installation>,
     books: &mut B,
@@ -44,8 +44,8 @@ fn add_open<B: Books>(
     Ok(())
 }
 
-// For each accounting register (a named counter) in `registers`, adds the register's open meter, if
-// there is one, to a list of meters.
+// For each accounting register (a named counter) in `registers`, adds the register's not yet closed
+// meter, if there is one, to a list of meters.
 fn add_registers<B: Books>(
     rows: &mut Vec<Installation>,
     books: &mut B,
@@ -62,7 +62,8 @@ fn add_registers<B: Books>(
     Ok(())
 }
 
-// Adds the open meters of a device's accounting registers (named counters) to a list of meters.
+// Adds the not yet closed meters of a device's accounting registers (named counters) to a list of
+// meters.
 fn add_device<B: Books>(
     rows: &mut Vec<Installation>,
     books: &mut B,
@@ -76,8 +77,8 @@ fn add_device<B: Books>(
     add_registers(rows, books, &registers)
 }
 
-// Adds the open meters of the accounting registers (named counters) of each device in `devices` to
-// a list of meters.
+// Adds the not yet closed meters of the accounting registers (named counters) of each device in
+// `devices` to a list of meters.
 fn add_devices<B: Books>(
     rows: &mut Vec<Installation>,
     books: &mut B,
@@ -94,8 +95,8 @@ fn add_devices<B: Books>(
     Ok(())
 }
 
-/// Returns the open meters that are assigned to the accounting registers (named counters) of the
-/// devices in `devices`, in the order of the devices.
+/// Returns the not yet closed meters of the accounting registers (named counters) of the devices in
+/// `devices`, in the order of the devices.
 pub fn open_meters<B: Books>(
     alloc: Global,
     books: &mut B,
@@ -147,7 +148,8 @@ pub fn openings_of<B: Books>(
 }
 
 /// Returns the openings (first entries of meters) in `opened` in the order of their timestamps. A
-/// new file's office refuses a command whose timestamp is before that of an earlier command.
+/// new file's office (event engine) refuses a command whose timestamp is before that of an earlier
+/// command.
 pub fn in_order(opened: Vec<Opening>) -> Result<Vec<Opening>, AllocError>
     ensures same { IfOk result (λ v. IsPermutation opened.items v.items) }
     ensures ordered { IfOk result (λ v. AllPairs (λ (a b : Opened). a.at ≤ b.at) v.items) }

@@ -9,10 +9,12 @@ use office_books::{Books, BooksFault};
 use office_events::{Device, Name, Opening};
 use std::alloc::Global;
 
-/// The plan of a new database file in which meters continue (a file rollover).
+/// The plan of a file rollover: the commands that set up a new database file in which meters
+/// continue, or the reason why there are none.
 ///
-/// The variant `Ready` has the commands for the new file and the number of meters that they
-/// install. The variant `NotYet` names a meter without a valid entry to continue from.
+/// The variant `Ready` of a file rollover's plan has the commands for the new file and the number
+/// of meters that they install. The variant `NotYet` names a meter without a valid (not voided)
+/// entry to continue from.
 #[derive(Drop)]
 pub enum Plan {
     Ready {
@@ -43,8 +45,8 @@ fn plan_for<B: Books>(
     })
 }
 
-/// Returns the plan for a new database file in which the meters of the old file continue. The old
-/// file is only queried.
+/// Returns the plan (the commands that set up the file) for a new database file in which the meters
+/// of the old file continue. The old file is only queried.
 pub fn plan_of<B: Books>(
     alloc: Global,
     books: &mut B,

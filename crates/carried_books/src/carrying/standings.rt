@@ -61,7 +61,7 @@ fn counts(until: Option<u64>, entry: &MeterEntry) -> bool
 }
 
 // Returns the last state of a meter's counter after one more entry. If the entry is voided
-// (cancelled) or later than `until`, returns `found`.
+// (cancelled) or later than `until`, returns `found`, the state before this entry.
 fn last_with(found: Option<Last>, until: Option<u64>, entry: &MeterEntry) -> Option<Last>
     ensures { (before : List Listed) → found ≡ standings.last_among until before
         → result ≡ standings.last_among until (before ++ entry.now ∷ []) }
@@ -74,7 +74,7 @@ fn last_with(found: Option<Last>, until: Option<u64>, entry: &MeterEntry) -> Opt
 }
 
 // Returns the last state of a meter's counter after further entries. If each of these entries is
-// voided (cancelled) or later than `until`, returns `found`.
+// voided (cancelled) or later than `until`, returns `found`, the state before these entries.
 fn last_after(found: Option<Last>, until: Option<u64>, entries: &[MeterEntry]) -> Option<Last>
     ensures { (before : List Listed) → found ≡ standings.last_among until before
         → result ≡ standings.last_among until (before ++ entries.now) }

@@ -1,4 +1,4 @@
-//! Adds up the energy intervals of several database files by civil day.
+//! Adds up the energy intervals (energies of quarter hours) of several database files by civil day.
 ghost use Rattle.std.specs.Prelude.{◌≡◌, map};
 ghost use Rattle.std.proofs.Props.{props};
 
@@ -7,11 +7,11 @@ use office_books::RowSink;
 use office_events::{Refusal, StoreCause};
 use std::alloc::{AllocError, Global};
 
-/// Adds up energy intervals by civil day, as they arrive.
+/// Adds up energy intervals (energies of quarter hours) by civil day, as they arrive.
 ///
-/// An interval is out of order if it starts before an interval added earlier, or after the largest
-/// supported timestamp. This is a fault. After a fault, or after memory ran out, all further
-/// intervals are dropped.
+/// An energy interval (energy of a quarter hour) is out of order if it starts before an interval
+/// added earlier, or after the largest supported timestamp. The sum records this as a fault. After
+/// a fault, or after memory ran out, all further intervals are dropped.
 #[derive(Drop)]
 pub struct JoinedDays {
     zone: Zone,
@@ -50,8 +50,8 @@ impl JoinedDays {
         self.zone
     }
 
-    // Adds an energy interval to the sum by civil day. If the interval is out of order, or if
-    // memory runs out, records this fault instead.
+    // Adds an energy interval (energy of a quarter hour) to the sum by civil day. If the interval
+    // is out of order, or if memory runs out, records this fault instead.
     fn add(&mut self, row: Share)
         requires works { self.old.fault ≡ None }
         ensures { AddsRow self.old row self.new }
@@ -97,8 +97,9 @@ impl JoinedDays {
 
 /// The sum of energy intervals of earlier files by civil day, without the time zone of the days.
 ///
-/// The time zone is left out because of a limit of the proof system. The proof system has no rule
-/// for a call that uses a file's database and borrows a value with a time zone.
+/// The type of the earlier files' energy by day has no time zone, because of a limit of the proof
+/// system. The proof system has no rule for a call that uses a file's database and borrows a value
+/// with a time zone.
 #[derive(Drop)]
 pub struct EarlierDays {
     fold: DayFold,
@@ -111,8 +112,8 @@ impl EarlierDays {
     ghost use Rattle.interval_core.specs.Days.{account_of};
     ghost use Rattle.carried_books.specs.Joining.Days.{GoesOnFrom};
 
-    /// Creates the sum of the earlier files' energy from a sum of intervals by civil day, without
-    /// the time zone.
+    /// Creates the sum of the earlier files' energy by civil day from `days`, the data that were
+    /// collected from these files. The time zone is dropped.
     pub fn new(days: JoinedDays) -> EarlierDays
         ensures { result.fold ≡ days.fold }
     {

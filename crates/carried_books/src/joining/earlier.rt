@@ -30,8 +30,8 @@ use std::alloc::{AllocError, Global};
 /// An accounting register (a named counter) in earlier database files: its meters and its energy by
 /// day.
 ///
-/// The meters are in the order of installation. Each meter has its first entry (opening), its
-/// latest state and its energy over all of these files.
+/// The meters of the register (a named counter) are in the order of installation. Each meter has
+/// its first entry (opening), its latest state and its energy over all earlier database files.
 #[derive(Drop)]
 pub struct EarlierRegister {
     pub name: Name,
@@ -62,9 +62,10 @@ fn earlier_of(kept: KeptRegister) -> EarlierRegister
 }
 
 /// Adds the data of an accounting register (a named counter) in the next database file. Returns the
-/// reason if the file does not continue the earlier files.
+/// reason if the file does not continue the meter history of the earlier files.
 ///
-/// The next file is only queried.
+/// Adding the next database file to the data collected from the earlier files only queries this
+/// file, and changes nothing in it.
 pub fn add_next_file<B: Books>(
     kept: &mut KeptRegister,
     books: &mut B,
@@ -83,7 +84,8 @@ pub fn add_next_file<B: Books>(
 }
 
 // Compares a database file's meters of an accounting register (a named counter) with those of the
-// earlier files: each meter must continue or follow the earlier meters.
+// earlier files. Each meter must continue an earlier meter, or begin after the earlier meters were
+// closed.
 fn hold_meters<B: Books>(kept: &KeptRegister, books: &mut B) -> Result<Option<Unjoined>, BooksFault>
     ensures holds { (known : List Fact) → (B.ledger books.old).holds known
         → (B.ledger books.new).is_clean
@@ -104,11 +106,12 @@ fn hold_meters<B: Books>(kept: &KeptRegister, books: &mut B) -> Result<Option<Un
 }
 
 /// Compares the running program's database file with the earlier files. Returns the reason if the
-/// current file does not continue the earlier files.
+/// current file does not continue the meter history of the earlier files.
 ///
-/// The function checks that the register (a named counter) is recorded, and that its meters
-/// continue or follow the earlier meters. The collected data stay those of the earlier files. The
-/// current file is only queried.
+/// The comparison of the current file with the earlier ones checks two things. The file must record
+/// the collected register (a named counter) if an earlier file does. The register's meters must
+/// continue the earlier meters, or begin after these were closed. The collected data stay those of
+/// the earlier files. The current file is only queried.
 pub fn compare_file<B: Books>(
     kept: &KeptRegister,
     books: &mut B,
@@ -146,7 +149,7 @@ fn is_kept(kept: &[KeptRegister], name: &Name) -> bool
     kept.iter().any(|one| one.name.is(name))
 }
 
-// Adds the data of the next database file to each collected register.
+// Adds the data of the next database file to each collected accounting register (a named counter).
 fn add_all<B: Books>(
     kept: &mut Vec<KeptRegister>,
     books: &mut B,
@@ -175,8 +178,8 @@ fn add_all<B: Books>(
     Ok(None)
 }
 
-// Compares a database file with each collected register, and returns the first reason why the file
-// does not continue the earlier files.
+// Compares a database file with each collected accounting register (a named counter), and returns
+// the first reason why the file does not continue the meter history of the earlier files.
 fn compare_all<B: Books>(
     kept: &[KeptRegister],
     books: &mut B,
@@ -209,8 +212,8 @@ fn push_register(kept: &mut Vec<KeptRegister>, one: KeptRegister) -> Result<(), 
     }
 }
 
-// Adds an accounting register (a named counter) of a database file to the collected registers, if
-// no earlier file has the register.
+// Adds an accounting register (a named counter) of a database file to the registers collected from
+// several files, if no earlier file has the register.
 fn add_new<B: Books>(
     alloc: Global,
     zone: Zone,
@@ -248,8 +251,8 @@ fn add_new<B: Books>(
     }
 }
 
-// Adds to the collected registers those accounting registers (named counters) in `registers` that
-// were not collected before.
+// Adds those accounting registers (named counters) in `registers` that were not collected before to
+// the registers collected from several database files.
 fn add_registers<B: Books>(
     alloc: Global,
     zone: Zone,
@@ -279,8 +282,8 @@ fn add_registers<B: Books>(
     Ok(None)
 }
 
-// Adds to the collected registers those accounting registers (named counters) of a device that were
-// not collected before.
+// Adds those accounting registers (named counters) of a device that were not collected before to
+// the registers collected from several database files.
 fn add_device<B: Books>(
     alloc: Global,
     zone: Zone,
@@ -304,8 +307,8 @@ fn add_device<B: Books>(
     }
 }
 
-// Adds to the collected registers those accounting registers (named counters) of the devices in
-// `devices` that were not collected before.
+// Adds those accounting registers (named counters) of the devices in `devices` that were not
+// collected before to the registers collected from several database files.
 fn add_devices<B: Books>(
     alloc: Global,
     zone: Zone,
@@ -335,8 +338,8 @@ fn add_devices<B: Books>(
     Ok(None)
 }
 
-// Adds to the collected registers all accounting registers (named counters) of a database file,
-// except those collected before.
+// Adds all accounting registers (named counters) of a database file, except those collected before,
+// to the registers collected from several files.
 fn add_others<B: Books>(
     alloc: Global,
     zone: Zone,
@@ -451,8 +454,9 @@ impl KeptRegisters {
 /// Collects all accounting registers (named counters) of the database files, whichever register and
 /// range were requested.
 ///
-/// If the rules accept each record of the files after the earlier records, then the collected
-/// registers are exactly those of the files.
+/// Suppose that the rules for records accept each record of a file after the file's earlier
+/// records, for all files. Then the collected accounting registers (named counters) are exactly
+/// those of the files.
 impl Keeping for KeptRegisters {
     ghost use Rattle.std.specs.Prelude.{◌≡◌, All};
     ghost use Rattle.office_books.specs.Lawful.{AreLawful};
@@ -489,11 +493,11 @@ pub struct ComparedRegisters {
     pub kept: KeptRegisters,
 }
 
-/// Compares a database file with all accounting registers (named counters), whichever register and
-/// range were requested. Adds no data of the file to those of the earlier files.
+/// Compares a database file with all collected accounting registers (named counters), whichever
+/// register and range were requested. Adds no data of the file to those of the earlier files.
 ///
-/// Here `files` in `keeps` are the files that were compared. Each of these files continues the
-/// collected data.
+/// The statement `keeps` (which data a collector has) for the type `ComparedRegisters`: each of the
+/// database files `files` was compared, and continues all meters in the collected data.
 impl Keeping for ComparedRegisters {
     ghost use Rattle.std.specs.Prelude.{◌≡◌, All, None, Some};
     ghost use Rattle.carried_books.specs.Joining.Earlier.{HoldAll};

@@ -18,14 +18,15 @@ use office_books::{Books, BooksFault, Span};
 use office_events::{Installation, Name};
 use std::alloc::Global;
 
-/// The reason why a file does not continue the earlier database files.
+/// The reason why a database file cannot be joined to the earlier database files, as one history of
+/// the meters of a register (a named counter).
 #[derive(Clone, Copy)]
 pub enum Unjoined {
     /// The database file does not record the accounting register (a named counter), though an
     /// earlier file does.
     NotRecorded,
     /// A meter of the accounting register (a named counter) in the database file conflicts with an
-    /// earlier meter, as `Apart` explains.
+    /// earlier meter: they overlap in time or have one name. `Apart` has both meters.
     Apart(Apart),
     /// An energy interval of the database file starts before an interval that was added earlier, or
     /// after the largest supported timestamp.
@@ -66,7 +67,8 @@ pub(crate) fn is_recorded<B: Books>(books: &mut B, register: &Name) -> Result<bo
 }
 
 /// Adds a database file's meters of an accounting register (a named counter) to `meters`. If a
-/// meter does not continue or follow the earlier meters, returns this meter and an earlier one.
+/// meter conflicts with an earlier one, returns both. A meter must continue an earlier meter, or
+/// begin after the earlier ones were closed.
 pub(crate) fn join_meters<B: Books>(
     meters: &mut Vec<Installation>,
     books: &mut B,
@@ -87,9 +89,9 @@ pub(crate) fn join_meters<B: Books>(
     }
 }
 
-// Adds the energy intervals of an accounting register (a named counter) in a span of time. Returns
-// the reason if an interval is out of order: it starts before an interval added earlier, or after
-// the largest supported timestamp.
+// Adds the energy intervals (energies of quarter hours) of an accounting register (a named counter)
+// in a span of time. Returns the reason if an interval is out of order: it starts before an
+// interval added earlier, or after the largest supported timestamp.
 fn join_days<B: Books>(
     days: &mut JoinedDays,
     books: &mut B,
@@ -114,7 +116,7 @@ fn join_days<B: Books>(
 
 // Adds the meters and the energy intervals of an accounting register (a named counter) in a
 // database file to those of the earlier files. Returns the reason if the file does not continue the
-// earlier files.
+// meter history of the earlier files.
 fn add_rows<B: Books>(
     joined: &mut JoinedFiles,
     books: &mut B,
@@ -135,8 +137,8 @@ fn add_rows<B: Books>(
     }
 }
 
-// Adds the data of an accounting register in the next database file, and returns the reason if the
-// file does not continue the earlier files.
+// Adds the data of an accounting register (a named counter) in the next database file. Returns the
+// reason if the file does not continue the meter history of the earlier files.
 fn add_file<B: Books>(
     joined: &mut JoinedFiles,
     books: &mut B,
@@ -163,8 +165,8 @@ fn add_file<B: Books>(
 /// Adds the data of an accounting register (a named counter) in the next database file: the meters,
 /// and the quarter-hour energies in a span of time.
 ///
-/// Returns the reason if the next file does not continue the earlier files. The next file is only
-/// queried.
+/// Returns the reason if the next database file does not continue the meter history of the earlier
+/// files. The call only queries the next file, and changes nothing in it.
 pub fn add_books<B: Books>(
     joined: &mut JoinedFiles,
     books: &mut B,

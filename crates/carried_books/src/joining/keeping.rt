@@ -10,9 +10,9 @@ use std::alloc::Global;
 /// A collector of the data of several files, to report a register (a named counter) on the days of
 /// a range.
 ///
-/// Code that opens a file is proved for every implementation of this trait. The reason is a limit
-/// of the proof system, which has no rule for a call that names the collected value and the file's
-/// database.
+/// Code that opens a file is proved for every collector type (every implementation of the trait
+/// `Keeping`). The proof system has no rule for a call that uses a known collector type and the
+/// file's database.
 pub trait Keeping: Drop {
     ghost use Rattle.std.specs.Prelude.{ℕ, List, [], IfOk};
     ghost use Rattle.interval_core.specs.declared.zone.Zone.{Zone};
@@ -34,9 +34,11 @@ pub trait Keeping: Drop {
         ensures { (register : List ℕ) → keeps zone range register [] result };
 
     /// Adds the data of an accounting register (a named counter) in the next database file. Returns
-    /// the reason if the file does not continue the earlier files.
+    /// the reason if the file does not continue the meter history of the earlier files.
     ///
-    /// The next file is only queried.
+    /// Adding the next database file to a collector, which collects the data of accounting
+    /// registers (named energy counters) over several files, only queries this file and changes
+    /// nothing in it.
     fn add<B: Books>(
         &mut self,
         books: &mut B,

@@ -101,8 +101,8 @@ fn held<B: Books>(
     Ok(held.counts())
 }
 
-/// Returns the statement (report) of a meter in one database file. Its tally of entries continues
-/// the tally of the earlier files.
+/// Returns the statement (report) of a meter in one database file. Its tally (first and last entry,
+/// corrections) continues the tally of the earlier files.
 pub(crate) fn part_in_file<B: Books>(
     books: &mut B,
     begun: EntryTally,

@@ -1,8 +1,8 @@
 //! Theorems on daily reports and meter statements over several database files, and on the latest
 //! meter of a register (a named counter).
 //!
-//! The contract of each function states a theorem. The body of the function is empty or calls other
-//! theorems.
+//! In this module, the contract of each function states a theorem. The body of the function is
+//! empty or calls other theorems.
 ghost use Rattle.carried_books.specs.Joining.Earlier.{CollectedDaysAreSums};
 ghost use Rattle.carried_books.specs.Joining.Reports.{BothFilesTellTheJoinedDays};
 ghost use Rattle.carried_books.specs.Joining.Reports.{OneFileReportsItsDays};
@@ -12,7 +12,8 @@ ghost use Rattle.carried_books.specs.Joining.Statements.{OneFileStatesItsMeters}
 
 use office_books::names_are_distinct;
 
-/// Proves that a report over one database file has the register's energy by day in this file.
+/// Proves that a report over one database file has the energy by day of the accounting register (a
+/// named counter) in this file.
 pub fn days_of_one_file_are_its_own()
     ensures { OneFileReportsItsDays }
 {}
@@ -20,8 +21,9 @@ pub fn days_of_one_file_are_its_own()
 /// Proves that a report of a meter's energy by day over two database files equals the report over a
 /// single file.
 ///
-/// The second file continues the meter where the first file ended. The single file has the complete
-/// history of the meter.
+/// The theorem on a meter's report over two database files assumes that the second file continues
+/// the meter from its state at the end of the first. The single file, whose report equals that over
+/// both files, has the complete history of the meter.
 pub fn joined_days_agree_with_both_files()
     ensures { BothFilesTellTheJoinedDays }
 {}
@@ -37,17 +39,19 @@ pub fn one_file_states_its_meters()
 /// Proves that the statement (report) of a meter over two database files equals the statement over
 /// a single file.
 ///
-/// The second file continues the meter where the first file ended. The single file has the meter's
-/// history of both files.
+/// The theorem on a meter's statement (report) over two database files assumes that the second file
+/// continues the meter from its state at the end of the first. The single file, whose statement
+/// equals that over both files, has the meter's history of both.
 pub fn both_files_state_the_joined_meter()
     ensures { BothFilesStateTheJoinedMeter }
 {}
 
-/// Proves a theorem on the latest meter of an accounting register (a named counter). If the meters
-/// of the latest file continue or follow those of the earlier files, then the reported meter is the
-/// register's last meter in all files.
+/// Proves a theorem on the latest meter of an accounting register (a named counter). Suppose that
+/// the latest file's meters continue those of the earlier files, or begin after these were closed.
+/// Then the reported meter is the register's last meter in all files.
 ///
-/// The theorem assumes that the program wrote the latest file.
+/// The theorem on the latest meter of a register (a named counter) assumes that this program wrote
+/// the latest database file.
 pub fn latest_is_of_all_files()
     ensures { LatestIsOfAllFiles }
 {

@@ -1,5 +1,6 @@
-//! Joins the meters of an accounting register (a named counter) over several database files, the
-//! oldest file first.
+//! Makes one list of the meters that an accounting register (a named counter) has in several
+//! database files, the oldest file first. A meter that continues an earlier file's meter becomes
+//! one meter with it.
 ghost use Rattle.std.specs.Prelude.{◌≡◌, ◌↔◌, ◌&&◌, IsTrue, not, find, IfOk};
 ghost use Rattle.meter_journal.specs.Audit.CarriedFiles.{GoesOnAs};
 ghost use Rattle.carried_books.specs.Joining.Meters as meters;
@@ -82,7 +83,7 @@ pub(crate) fn is_before(stands: &Installation, row: &Installation) -> bool
 }
 
 // Returns the first of the earlier meters in `known` that was not closed before the meter `row`
-// began, or that has the name of `row`. Returns `None` if no meter is like this.
+// began, or that has the name of `row`. Returns `None` if `known` has no such meter.
 fn not_before(known: &[Installation], row: &Installation) -> Option<Installation>
     ensures { result ≡ find (λ stands. not (meters.is_before stands row.now)) known.now }
 {
@@ -112,8 +113,8 @@ fn add_next(known: &mut Vec<Installation>, row: &Installation) -> Result<Option<
 }
 
 // Adds the meter `row` to the earlier meters in `known`, if `row` continues the last of them or
-// begins after all were closed. If `row` does neither, returns `row` and a meter that `row` does
-// not follow.
+// begins after all were closed. If `row` does neither, returns `row` and an earlier meter with
+// which `row` conflicts.
 fn add_meter(known: &mut Vec<Installation>, row: &Installation) -> Result<Option<Apart>, AllocError>
     ensures { IfOk result (AddsOrIsApart known.old.items row.now known.new.items) }
 {
@@ -129,9 +130,10 @@ fn add_meter(known: &mut Vec<Installation>, row: &Installation) -> Result<Option
 }
 
 /// Adds the meters in `listed`, of one database file, to the earlier files' meters in `known`. If a
-/// meter neither continues nor follows the earlier meters, returns this meter and an earlier one.
+/// meter conflicts with an earlier one, returns both. A meter must continue an earlier meter, or
+/// begin after the earlier ones were closed.
 ///
-/// The meters of the file are in the order of installation.
+/// The meters in `listed` are in the order of their installation.
 pub fn add_meters(
     known: &mut Vec<Installation>,
     listed: &[Installation],

@@ -1,5 +1,5 @@
-//! Joins the energies by day of an accounting register (a named counter) in earlier database files
-//! with those of the current file.
+//! Adds up the energy by day of an accounting register (a named counter) over the earlier database
+//! files and the current file.
 ghost use Rattle.std.specs.Prelude.{Err};
 ghost use Rattle.std.specs.declared.alloc.Global.{Global};
 ghost use Rattle.std.specs.declared.vec.Vec.{Vec};
@@ -14,8 +14,8 @@ use office_books::{Books, Span, facts_are_lawful};
 use office_core::Office;
 use office_events::{Installation, Name, Refusal};
 
-// Adds the energy intervals of the meters in `meters` in a span of time to a sum by day, one meter
-// after another.
+// Adds the energy intervals (energies of quarter hours) of the meters in `meters` in a span of time
+// to a sum by day, one meter after another.
 fn add_meters_within<B: Books>(
     days: &mut JoinedDays,
     office: &mut Office<B>,
@@ -33,8 +33,8 @@ fn add_meters_within<B: Books>(
     Ok(())
 }
 
-// Adds the energy intervals of an accounting register (a named counter) in a span of time to a sum
-// by day. The intervals are those in the current database file.
+// Adds the energy intervals (energies of quarter hours) of an accounting register (a named counter)
+// in a span of time to a sum by day. The intervals are those in the current database file.
 fn add_register<B: Books>(
     days: &mut JoinedDays,
     office: &mut Office<B>,
@@ -67,9 +67,10 @@ fn without_memory<B: Books>(office: &mut Office<B>, register: &Name) -> Refusal
 /// Returns the energy by civil day of a register (a named counter) over earlier database files and
 /// the current file, in mWh.
 ///
-/// From the current file, only the quarter hours in a span of time are added. The time zone must be
-/// that of the earlier days. The current file is only queried. If a quarter hour starts before one
-/// that was added earlier, the refusal is the same as for a quarter hour without a civil day.
+/// Of the current file, the energy by day over all files includes only the quarter hours in a span
+/// of time. The time zone must be the one by which the energy in `earlier` was added up. The
+/// current file is only queried. If a quarter hour starts before a quarter hour that was added
+/// earlier, the refusal is the same as for a quarter hour without a civil day.
 pub fn days_over<B: Books>(
     office: &mut Office<B>,
     zone: Zone,

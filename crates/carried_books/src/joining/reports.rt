@@ -23,7 +23,8 @@ fn hand_on<K: RowSink<DayTotal>>(days: &[DayTotal], sink: &mut K)
     }
 }
 
-// Prints the end of a report on energy by day, and returns the exit status.
+// Prints the end of a report on energy by day, after its last day, and returns the exit status of
+// the command.
 fn finish<W: Write>(rows: &mut ReportRows<'_, W>) -> ExitStatus
     ensures { PrintsLast W.contents result rows.old rows.new }
 {
@@ -49,7 +50,8 @@ pub fn report_days<W: Write>(days: &[DayTotal], form: &ReportForm, output: &mut 
 /// Prints the energy of an accounting register (a named counter) over files that join (have one
 /// history), by period. The request `form` has the range of days, the unit and the format.
 ///
-/// The data must have been collected for the time span that `span_around` returns for the range.
+/// The meters and energies in `joined` must have been collected for the time span that the function
+/// `span_around` returns for the requested range of days.
 pub fn report_joined<W: Write>(joined: JoinedFiles, form: &ReportForm, output: &mut W) -> ExitStatus
     ensures { ReportsJoined W.Write joined form.now output.old output.new result }
 {

@@ -1,5 +1,6 @@
-//! Joins the meters of an accounting register (a named counter) in earlier database files with
-//! those of the current file.
+//! Combines the meters of an accounting register (a named counter) in earlier database files with
+//! those of the current file. A meter that continues in the current file becomes one meter with the
+//! energy of all files.
 ghost use Rattle.std.specs.Prelude.{◌≡◌};
 ghost use Rattle.carried_books.specs.Joining.Sites as sites;
 
@@ -18,7 +19,8 @@ pub struct LatestMeter {
 /// Returns the meters that earlier database files assign to a register (a named counter), in the
 /// order of installation. Each meter has its data from all of these files.
 ///
-/// The result is empty if the files have no such register.
+/// Returns an empty list of meters if no earlier database file has a register (a named counter)
+/// with the requested name.
 pub fn earlier_meters<'a>(earlier: &'a [EarlierRegister], register: &Name) -> &'a [Installation]
     ensures { result.now ≡ sites.earlier_meters earlier.now register.now }
 {
@@ -31,7 +33,7 @@ pub fn earlier_meters<'a>(earlier: &'a [EarlierRegister], register: &Name) -> &'
 }
 
 // Returns whether the meter `stands` was still open at the end of the earlier database files, and
-// the current file's meter `row` has its name.
+// the current file's meter `row` has the name of `stands`.
 fn is_left(stands: &Installation, row: &Installation) -> bool
     ensures { result ≡ sites.is_left stands.now row.now }
 {
@@ -91,9 +93,10 @@ fn latest(stands: &Option<Installation>, row: &Option<Installation>) -> Option<L
 /// Returns the latest meter of a register (a named counter), from its meters in the earlier files
 /// and its latest meter in the current file.
 ///
-/// If the current file's meter continues the last earlier meter, the result is one meter over all
-/// files, with the energy of all files. If the current file has no meter of the register, the
-/// result is the last earlier meter.
+/// Suppose that the last meter of a register (a named counter) in the earlier files is not closed,
+/// and the current file's meter has its name. Then the latest meter is one meter with the energy of
+/// all files. If the current file has another meter of the register, that meter alone is the latest
+/// meter. If the current file has none, the latest meter is the last one in the earlier files.
 pub fn latest_meter(earlier: &[Installation], row: &Option<Installation>) -> Option<LatestMeter>
     ensures { result ≡ sites.latest_meter earlier.now row.now }
 {

@@ -23,12 +23,12 @@ use office_events::{Installation, Name};
 use std::alloc::{AllocError, Global};
 use std::io::Write;
 
-/// The statements of the meters of an accounting register (a named counter), over several database
-/// files.
+/// The statements (billing reports) of the meters of an accounting register (a named counter), over
+/// several database files.
 ///
-/// `is_recorded` says whether any of the files contains the register. `meters` has the statement
-/// (billing report) of each of the register's meters for a range of days in the time zone `zone`,
-/// over all files together.
+/// `is_recorded` says whether any of the files contains the accounting register (a named counter).
+/// `meters` has the statement (billing report) of each of the register's meters for a range of days
+/// in the time zone `zone`, over all files together.
 #[derive(Drop)]
 pub struct JoinedStatement {
     pub is_recorded: bool,
@@ -37,7 +37,7 @@ pub struct JoinedStatement {
 }
 
 // Returns the first of the earlier meters in `known` that was not closed before the meter `row`
-// began, or that has the name of `row`. Returns `None` if no meter is like this.
+// began, or that has the name of `row`. Returns `None` if `known` has no such meter.
 fn not_before(known: &[KeptMeter], row: &Installation) -> Option<Installation>
     ensures { result ≡ option_map stands_of
         (find (λ one. not (meters.is_before one.stands row.now)) known.now) }
@@ -115,7 +115,8 @@ fn add_row<B: Books>(
 }
 
 // Adds the meters of a database file to those of earlier files, in the order of installation. If a
-// meter neither continues nor follows the earlier meters, returns this meter and an earlier one.
+// meter conflicts with an earlier one, returns both. A meter must continue an earlier meter, or
+// begin after the earlier ones were closed.
 fn add_listed<B: Books>(
     known: &mut Vec<KeptMeter>,
     books: &mut B,
@@ -159,8 +160,8 @@ fn add_meters<B: Books>(
     add_listed(known, books, zone, range, &listed)
 }
 
-/// Collects the statements (billing reports) of an accounting register's meters over several
-/// database files.
+/// Collects the statements (billing reports) of the meters of an accounting register (a named
+/// counter) over several database files.
 impl Keeping for JoinedStatement {
     ghost keeps = { HasStated };
 
@@ -236,12 +237,12 @@ fn print_rows<W: Write>(form: &StatementForm, rows: &[MeterStatement], output: &
     }
 }
 
-/// Prints the statements (billing reports) of a register's meters over several database files, on
-/// the days of a range.
+/// Prints the statements (billing reports) of the meters of a register (a named counter) over
+/// several database files, on the days of a range.
 ///
-/// The meters are those that were installed in the range, in the order of installation, with their
-/// data from all files. The range must be that for which the data were collected. On `Err`, memory
-/// ran out, and nothing is printed.
+/// The statements (reports) are on the meters that were installed in the range, in the order of
+/// installation, with their data from all files. The range must be that for which the data were
+/// collected. On `Err`, memory ran out, and nothing is printed.
 pub fn state_joined<W: Write>(
     alloc: Global,
     joined: &JoinedStatement,

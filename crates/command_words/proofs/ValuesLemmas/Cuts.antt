@@ -1,4 +1,5 @@
--- Lemmas about splitting a text at the first or last byte that satisfies a predicate.
+-- Lemmas: splitting a text at the first or last byte that satisfies a predicate yields the text
+-- before this byte and the text after it.
 use Rattle.std.proofs.Common.{◌≡◌, ◌≢◌, ◌∙◌, ◌+◌, ◌-◌, ◌<◌, ◌≤◌, [], ap, sym, ℕ, Bool, List, Option, Some, None, length, take, drop, get_or, not, true, false, arith, length-drop}
 use Rattle.std.specs.Borrow.{Bor}
 use Rattle.std.specs.Prelude.{MatchOption, ◌==◌}

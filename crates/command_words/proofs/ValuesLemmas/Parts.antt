@@ -1,4 +1,5 @@
--- Lemmas about parsing the comma-separated parts of a device list one by one.
+-- Lemmas: parsing the comma-separated parts of a device list one by one yields the devices of the
+-- complete list, or finds the list invalid.
 use Rattle.std.proofs.Common.{◌≡◌, ◌∙◌, ◌&&◌, ◌||◌, ◌++◌, ◌+◌, ◌-◌, ◌<◌, ◌∷◌, [], ap, refl, sym, ℕ, Bool, List, Option, Some, None, zero, suc, length, map, take, drop, get_or, not, true, false, arith, add-one, length-drop}
 use Rattle.std.specs.Borrow.{Bor}
 use Rattle.std.specs.List.{list_any}
@@ -41,7 +42,8 @@ each_none f [] i d within none = absurd (omega (arith, within))
 each_none f (x ∷ xs) zero d within none = ap (λ o. with_first o (each_of f xs)) none
 each_none f (x ∷ xs) (suc i) d within none = nothing_first (f x) (each_of f xs) (each_none f xs i d (omega (arith, within)) none)
 
--- Lemmas about the devices in the first parts of a device list, which a loop parses one by one.
+-- Lemmas about a loop that parses the parts of a device list one by one. After the part at index
+-- `i`, it has the devices of the first `i + 1` parts, or the list is invalid.
 
 pub devices_more : (parts : List (Bor Text)) (i : ℕ) (d : Bor Text) (old new : List Device) (device : Device) → i < length parts
     → Some (map place_of old) ≡ each_of device_in (texts (take i parts)) → Some (place_of device) ≡ device_in (get_or parts i d).now → new ≡ old ++ device ∷ []
@@ -57,8 +59,8 @@ devices_none parts i d within none =
     let inside : i < length (texts parts) = rw length-map within in
     each_none device_in (texts parts) i d.now inside (none ∙ ap device_in (sym (get_or-map (λ part. part.now) parts i d d.now within)))
 
--- Lemmas about the device names in a device list from an index on. They state whether all names are
--- different, and whether a given name is among them.
+-- Lemmas about the device names in the part of a device list from an index to the end. They state
+-- whether all names are different, and whether a given name is among them.
 
 list_any-map : {X Y : Type 0} (p : Y → Bool) (f : X → Y) (xs : List X) → list_any (λ x. p (f x)) xs ≡ list_any p (map f xs)
 list_any-map p f [] = refl
@@ -84,8 +86,8 @@ pub distinct_more : (parts : List (Bor Text)) (i : ℕ) (d : Bor Text) → i < l
 distinct_more parts i d within so_far absent =
     ap (λ b. not b && are_distinct (names_in (texts (drop (i + 1) parts)))) (sym absent) ∙ (sym (distinct_at parts i d within) ∙ so_far)
 
--- The slice of a device list's parts from index `i + 1` to the end is the list without its first `i
--- + 1` parts.
+-- Lemma on the parts of an argument that lists devices. The slice of the parts from index `i + 1`
+-- to the end equals the list without its first `i + 1` parts.
 slice_after : (parts : List (Bor Text)) (i : ℕ) → take (length parts - (i + 1)) (drop (i + 1) parts) ≡ drop (i + 1) parts
 slice_after parts i = let size : length (drop (i + 1) parts) ≡ length parts - (i + 1) = length-drop (i + 1) parts in take_all _ (drop (i + 1) parts) (omega arith)
 

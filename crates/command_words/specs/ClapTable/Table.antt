@@ -44,7 +44,7 @@ lettered_flag letter name = record (flag name) { short = Some letter }
 abbrev pub word : Text → Rule
 word name = record (new_rule name) { value_names = 1; required = true }
 
--- A `clap` command with the name `name` and these options.
+-- A `clap` command with the name `name` and the given options.
 abbrev pub command_with : Text → List Rule → App
 command_with name options = fold with_rule (new_app name) options
 
@@ -65,7 +65,8 @@ program_with name commands later =
 
 -- Definitions that convert the rows of a program's option tables to `clap` rules and commands.
 
--- The `clap` rule of the option `name`, for the kind of option that the table states.
+-- The `clap` rule of the option `name`, for the kind of option that the table of a program's
+-- commands and options states.
 abbrev pub rule_by : Text → Value → Rule
 rule_by name (value.Required shown) = required_option name
 rule_by name (value.Optional shown) = optional_option name
@@ -76,31 +77,33 @@ rule_by name value.Absent = flag name
 rule_by name (value.Letter letter) = lettered_flag letter name
 rule_by name (value.Word shown choices) = word name
 
--- The `clap` rule of an option in a table.
+-- The `clap` rule of an option that is described in the table of a program's commands and options.
 abbrev pub option_rule : OptionText → Rule
 option_rule o = rule_by o.name.now o.value
 
--- The command `a` with one more option from a table.
+-- The command `a` with one more option from the table of a program's commands and options.
 abbrev pub with_option : App → OptionText → App
 with_option a o = with_rule a (option_rule o)
 
--- The command `a` with several more options from a table.
+-- The command `a` with several more options from the table of a program's commands and options.
 abbrev pub with_options : App → List OptionText → App
 with_options a options = fold with_option a options
 
--- The `clap` command for a command in a table.
+-- The `clap` command for a command that is described in the table of a program's commands and
+-- options.
 abbrev pub command_app : CommandText → App
 command_app c = with_options (new_app c.name.now) c.options.now
 
--- The program `a` with one more command from a table.
+-- The program `a` with one more command from the table of the program's commands and options.
 abbrev pub with_command : App → CommandText → App
 with_command a c = with_subcommand a (command_app c).top
 
--- The program `a` with several more commands from a table.
+-- The `clap` definition `a` of a program, with several more commands from the program's table of
+-- commands and options.
 abbrev pub with_commands : App → List CommandText → App
 with_commands a commands = fold with_command a commands
 
--- The `clap` definition of the program that a table describes.
+-- The `clap` definition of the program that a table of commands and options describes.
 abbrev pub program_app : ProgramText → App
 program_app p =
     as_program (with_commands (with_commands (new_app p.name.now) p.commands.now) p.later.now)

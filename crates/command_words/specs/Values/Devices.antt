@@ -24,7 +24,8 @@ pub record Place : Type 0 where
 abbrev pub place_of : Device → Place
 place_of d = record { name = d.name.now; host = d.host.now; port = d.port }
 
--- Converts a list of parsed devices to the type in contracts.
+-- Converts a list of parsed devices from the program's type (`Device`) to the type that contracts
+-- use (`Place`).
 abbrev pub places_of : List Device → List Place
 places_of devices = map place_of devices
 
@@ -61,8 +62,8 @@ port_in address = number_up_to 65535 (after_last is_colon address)
 abbrev pub is_empty : Text → Bool
 is_empty text = length text == 0
 
--- The device in a part `NAME=HOST:PORT` of the list. None if NAME or HOST is empty, or the port is
--- out of range.
+-- The device in a part `NAME=HOST:PORT` of a device list. None if NAME or HOST is empty, or the
+-- port is out of range.
 abbrev pub device_in : Text → Option Place
 device_in part =
     let address = address_in part in
@@ -70,15 +71,15 @@ device_in part =
     else given (port_in address)
     (λ port. Some (record { name = name_in part; host = host_in address; port = port }))
 
--- States that the result has the texts before and after the first `=` of a part. The result is None
--- if the part has no `=`.
+-- States that the result has the texts before and after the first `=` of a part `NAME=HOST:PORT` of
+-- a device list. The result is None if the part has no `=`.
 abbrev pub CutsAtEquals : Text → Option (Bor Text × Bor Text) → Type 0
 CutsAtEquals part result =
     MatchOption result ((name_in part ≡ part) × (address_in part ≡ []))
     (λ around. (around.0.now ≡ name_in part) × (around.1.now ≡ address_in part))
 
--- States that the result has the texts before and after the last `:` of an address. The result None
--- is allowed only if the address has no `:`, or no text before its last `:`.
+-- States that the result has the texts before and after the last `:` of an address `HOST:PORT`. The
+-- result None is allowed only if the address has no `:`, or no text before its last `:`.
 abbrev pub CutsAtLastColon : Text → Option (Bor Text × Bor Text) → Type 0
 CutsAtLastColon address result =
     MatchOption result (host_in address ≡ [])
@@ -93,7 +94,7 @@ are_distinct (text ∷ texts) = not (list_any (bytes_eq text) texts) && are_dist
 abbrev pub names_in : List Text → List Text
 names_in parts = map name_in parts
 
--- The bytes of each part of a device list.
+-- The bytes of each part (such as `NAME=HOST:PORT`) of an argument that lists devices.
 abbrev pub texts : List (Bor Text) → List Text
 texts parts = map (λ part. part.now) parts
 
@@ -116,14 +117,15 @@ devices_of parts =
 abbrev pub devices_in : Text → Option (List Place)
 devices_in text = devices_of (slice_split is_comma text)
 
--- States which faults the parser may report for a list whose specified devices are `due`. `Memory`
--- (out of memory) is always allowed, other faults only if the list is invalid (`due` is None).
+-- States which faults the parser may report for a device list. `due` has the devices by the
+-- specification, or is None if the list is invalid. `Memory` (out of memory) is always allowed,
+-- other faults only if `due` is None.
 abbrev pub IsFault : ListFault → Option (List Place) → Type 0
 IsFault fault.Memory due = ⊤
 IsFault (fault.Part part why) due = None ≡ due
 
--- States that a function parses a device list correctly. It returns the specified devices `due`, or
--- a fault that is allowed for this list.
+-- States that a function parses a device list correctly. It returns the devices `due`, which the
+-- specification requires, or a fault that is allowed for this list.
 abbrev pub Reads : {Z : Type 0} → Option (List Place) → Result (Vec Device Z) ListFault → Type 0
 Reads due result =
     MatchResult result (λ devices. Some (places_of devices.items) ≡ due)

@@ -9,7 +9,8 @@ use crate::clap_table::tables::{CommandText, OptionText, ProgramText, Value};
 use clap::{Arg, ArgAction, Command};
 use std::alloc::{AllocError, Global};
 
-// Builds the `clap` argument for an option in a table.
+// Builds the `clap` argument for an option that is described in the table of a program's commands
+// and options.
 fn argument<'a>(alloc: Global, option: OptionText<'a>) -> Arg<'a>
     ensures rule { rule_of result ≡ option_rule option.entry }
     ensures local { result.global ≡ false }
@@ -37,7 +38,7 @@ fn argument<'a>(alloc: Global, option: OptionText<'a>) -> Arg<'a>
     }
 }
 
-// Adds an option from a table to a `clap` command.
+// Adds an option from the table of a program's commands and options to a `clap` command.
 fn with_option<'a>(
     alloc: Global,
     command: Command<'a>,
@@ -51,7 +52,7 @@ fn with_option<'a>(
     command.arg(argument)
 }
 
-// Adds several options from a table to a `clap` command.
+// Adds several options from the table of a program's commands and options to a `clap` command.
 fn with_options<'a>(
     alloc: Global,
     command: Command<'a>,
@@ -69,7 +70,8 @@ fn with_options<'a>(
     Ok(command)
 }
 
-// Builds the `clap` command for a command in a table.
+// Builds the `clap` command for a command that is described in the table of a program's commands
+// and options.
 fn leaf_command<'a>(alloc: Global, text: CommandText<'a>) -> Result<Command<'a>, AllocError>
     ensures app { IfOk result (λ c. app_of c ≡ command_app text.entry) }
     ensures local { IfOk result (λ c. (fields_of c).has_globals ≡ false) }
@@ -80,7 +82,8 @@ fn leaf_command<'a>(alloc: Global, text: CommandText<'a>) -> Result<Command<'a>,
     with_options(alloc, command, text.options)
 }
 
-// Adds a subcommand from a table to the `clap` command of the program.
+// Adds a subcommand from the table of a program's commands and options to the `clap` command of
+// this program.
 fn with_command<'a>(
     alloc: Global,
     program: Command<'a>,
@@ -92,7 +95,8 @@ fn with_command<'a>(
     program.subcommand(command)
 }
 
-// Adds several subcommands from a table to the `clap` command of the program.
+// Adds several subcommands from the table of a program's commands and options to the `clap` command
+// of this program.
 fn with_commands<'a>(
     alloc: Global,
     program: Command<'a>,
@@ -108,8 +112,8 @@ fn with_commands<'a>(
     Ok(program)
 }
 
-/// Builds the `clap` command of the program in a table. The arguments must not begin with the
-/// program's name.
+/// Builds the `clap` command of the program that a table of commands and options describes. The
+/// arguments to parse must not begin with the program's name.
 pub(crate) fn command<'a>(alloc: Global, text: ProgramText<'a>) -> Result<Command<'a>, AllocError>
     ensures { IfOk result (λ c. app_of c ≡ program_app text.entry) }
 {

@@ -5,7 +5,7 @@
 pub enum Value<'a> {
     /// A required option with a value.
     Required(&'a str),
-    /// An option with a value that need not be given.
+    /// An option that need not be given, and that has a value if it is given.
     Optional(&'a str),
     /// An option that need not be given, and whose value is one of the words in `choices`.
     Chosen {
@@ -14,7 +14,7 @@ pub enum Value<'a> {
     },
     /// An option with a value that need not be given, and may be given several times.
     Repeated(&'a str),
-    /// An option with a value that must be given, and may be given several times.
+    /// A required option with a value, which may be given several times.
     Several(&'a str),
     /// A flag: an option without a value, which need not be given.
     Absent,

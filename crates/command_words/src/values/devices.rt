@@ -10,7 +10,7 @@ use crate::values::list_fault::{DeviceFault, ListFault};
 use crate::values::numbers::number_up_to;
 use std::alloc::{AllocError, Global};
 
-/// The maximum number of devices in a list.
+/// The maximum number of devices in the list of a command-line option such as `--devices`.
 pub const MOST_DEVICES: usize = 64;
 
 /// The highest TCP port number.
@@ -62,7 +62,8 @@ fn parts_of<'a>(alloc: Global, text: &'a str) -> Result<Vec<&'a str>, AllocError
     text.split(',').collect(alloc)
 }
 
-// Returns the device name in a part of a list, even if the part is otherwise invalid.
+// Returns the device name in a part `NAME=HOST:PORT` of a device list, even if the part is
+// otherwise invalid.
 fn name_of<'a>(part: &'a str) -> &'a str
     ensures { result.now ≡ name_in part.now }
 {
@@ -72,15 +73,15 @@ fn name_of<'a>(part: &'a str) -> &'a str
     }
 }
 
-// Returns whether one of the parts of a list has the device name `name`.
+// Returns whether one of the parts of a device list has the device name `name`.
 fn has_name(parts: &[&str], name: &str) -> bool
     ensures { result ≡ has_name parts.now name.now }
 {
     parts.iter().any(|part| name == name_of(part))
 }
 
-// Checks that all device names in a list are different. If a name occurs twice, the error contains
-// a part with this name.
+// Checks that all device names in a device list are different. If a name occurs twice, the error
+// contains a part of the list with this name.
 fn distinct<'a>(parts: &[&'a str]) -> Result<(), ListFault<'a>>
     ensures { is_ok result ≡ have_distinct_names parts.now }
 {
@@ -125,8 +126,8 @@ fn few<'a>(parts: &[&'a str]) -> Result<(), ListFault<'a>>
 /// Parses a comma-separated list of 1 to 64 devices `NAME=HOST:PORT` with different names. NAME
 /// ends at the first `=`, and HOST at the last `:`. Neither may be empty.
 ///
-/// If a list has several faults, the error is the first of these: more than 64 parts, a repeated
-/// name, an invalid part.
+/// If a device list has several faults, the error is the first of these: more than 64 parts, a
+/// repeated name, an invalid part.
 pub fn devices_in<'a>(alloc: Global, text: &'a str) -> Result<Vec<Device<'a>>, ListFault<'a>>
     ensures { Reads (devices_in text.now) result }
 {

@@ -8,18 +8,20 @@ use std::fmt::{Display, Formatter};
 /// A reason why a part of a device list is invalid.
 #[derive(Clone, Copy, Debug, Drop)]
 pub enum DeviceFault {
-    /// The part is not `NAME=HOST:PORT`, or its port is out of range.
+    /// Fault of a part of a device list: the part is not `NAME=HOST:PORT`, or its port is out of
+    /// range.
     Malformed,
-    /// Another part of the list has the same device name.
+    /// Fault of a part of a device list: another part has the same device name.
     Repeated,
-    /// The part is the 65th of the list, which may have at most 64 parts.
+    /// Fault of a part of a device list: it is the 65th part of the list, which may have at most 64
+    /// parts.
     TooMany,
 }
 
 /// A reason why a text is not a valid list of devices.
 #[derive(Clone, Copy, Debug, Drop)]
 pub enum ListFault<'a> {
-    /// The part `part` of the list is not a valid device.
+    /// The part `part` of the device list is not a valid device.
     Part { part: &'a str, fault: DeviceFault },
     Memory,
 }

@@ -4,7 +4,7 @@ ghost use Rattle.command_words.specs.Values.Numbers.{number_up_to};
 
 use sun_points::number_of_digits;
 
-/// The maximum number of digits in a number.
+/// The maximum number of digits of a decimal number in the arguments of a command.
 pub const MOST_DIGITS: usize = 10;
 
 /// Parses a number from 1 to `most`, of one to ten digits.

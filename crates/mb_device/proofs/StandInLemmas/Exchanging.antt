@@ -1,4 +1,5 @@
--- Lemmas about the register map of a simulated device after it executed requests.
+-- Lemmas: if a simulated device executed some frames, and then further frames, the register map
+-- afterwards is that of executing all these frames.
 use Rattle.std.proofs.Common.{◌≡◌, ◌∙◌, ◌++◌, ℕ, List, [], ◌∷◌, Option, refl, ap, sym}
 use Rattle.std.specs.Prelude.{Ok, Err, true, false}
 use Rattle.std.specs.declared.result.Result.{Result}

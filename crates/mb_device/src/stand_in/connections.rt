@@ -31,7 +31,7 @@ pub fn answer_one<L: Link>(
     server.serve(link, bank, MOST_TURNS)
 }
 
-// Serves one connection. A failure ends only this connection.
+// Serves one connection to a simulated device. A failure ends only this connection.
 fn answer_stream<S: Read + Write + OpenStream + Drop>(
     stream: S,
     bank: &mut Bank,
@@ -49,8 +49,9 @@ fn answer_stream<S: Read + Write + OpenStream + Drop>(
 /// Accepts `connections` connections, one after another, and serves the simulated device on each.
 ///
 /// Injected faults start again on each connection, and the register map keeps its values. A failure
-/// ends only its connection. A client that sends nothing loses its connection after at most
-/// `MOST_TURNS` seconds. If the listener fails, the call returns the listener's error.
+/// of a connection ends only that connection. A client that sends nothing loses its connection
+/// after at most `MOST_TURNS` seconds. If the listener fails, the call returns the listener's
+/// error.
 pub fn answer_all<L: OpenListener>(
     listener: &L,
     connections: u32,

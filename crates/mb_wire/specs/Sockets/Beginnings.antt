@@ -4,7 +4,8 @@ use Rattle.mb_wire.specs.declared.sockets.counts.Counts.{Counts}
 use Rattle.mb_wire.specs.declared.sockets.deadline_link.DeadlineLink.{DeadlineLink}
 use Rattle.mb_wire.specs.declared.sockets.socket.SocketLink.{SocketLink}
 
--- The deadline of a link (a byte connection), in seconds by its clock. Later reads and writes fail.
+-- The deadline of a link (a byte connection), in seconds by the link's clock. Reads and writes
+-- after the deadline fail.
 abbrev pub until_of : {L C : Type 0} → DeadlineLink L C → ℕ
 until_of link = link.until
 

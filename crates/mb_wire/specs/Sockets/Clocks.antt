@@ -6,7 +6,7 @@ use Rattle.mb_wire.specs.declared.sockets.clock.FixedClock.{FixedClock}
 abbrev pub moments_in : FixedClock → List ℕ
 moments_in clock = clock.moments.now
 
--- The first time of the list, or 0 if the list is empty.
+-- The first time in a clock's list of times, or 0 if the list is empty.
 abbrev pub next_moment : List ℕ → ℕ
 next_moment [] = 0
 next_moment (moment ∷ later) = moment

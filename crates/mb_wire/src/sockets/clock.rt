@@ -10,7 +10,7 @@ pub trait Clock {
     // operating system's clock.
     ghost moments: { Self → Option (List ℕ) } = { λ _. None };
 
-    /// Returns the current time, or 0 if the clock cannot be read.
+    /// Returns the current time in seconds since 1970-01-01 UTC, or 0 if the clock cannot be read.
     fn now(&mut self) -> u64
         ensures { ReportsMoment (moments self.old) (moments self.new) result };
 }

@@ -6,8 +6,8 @@ ghost use Rattle.mb_wire.specs.Sockets.Beginnings.{CountsNothing};
 
 use crate::{LastTake, LinkFailed, Took};
 
-/// Counts of calls: failed reads and writes, all reads, and reads that found the end of the input.
-/// `last` is the last read. The counts saturate at 2^64 - 1.
+/// Counts of calls on a connection: failed reads and writes, all reads, and reads that found the
+/// end of the input. `last` is the last read. The counts saturate at 2^64 - 1.
 #[derive(Drop)]
 pub struct Counts {
     pub failures: u64,
@@ -44,7 +44,8 @@ impl Counts {
         self.last = Some(LastTake { room, answer });
     }
 
-    /// Counts a write of `bytes` to the connection with the result `answer`.
+    /// Updates the counts for a write of `bytes` to the connection, whose result is `answer`. A
+    /// write that failed, or accepted none of the bytes, is counted as a failure.
     pub fn count_write(&mut self, bytes: &[u8], answer: Result<usize, LinkFailed>)
         ensures failures { self.new.failures ≡
             risen (is_failed_give answer bytes.now) self.old.failures }

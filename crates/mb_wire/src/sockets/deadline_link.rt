@@ -3,8 +3,8 @@ use crate::sockets::clock::Clock;
 use crate::sockets::counts::Counts;
 use crate::{LastTake, Link, LinkFailed, Took};
 
-/// A connection whose reads and writes fail after a given time. Tests, not proofs, show that each
-/// read and write looks at the clock.
+/// A connection whose reads and writes fail once the clock's time is after a deadline. Tests, not
+/// proofs, show that each read and write looks at the clock.
 #[derive(Drop)]
 pub struct DeadlineLink<'l, L: Link, C: Clock> {
     link: &'l mut L,

@@ -1,5 +1,5 @@
--- Lemmas: after one more record is added to a store, the updated cache of lookup results still
--- agrees with the store's records.
+-- Lemmas: after one more record is added to a store, each result in the updated cache of lookup
+-- results still follows from the store's records.
 use Rattle.std.proofs.Common.{◌≡◌, ℕ, ◌+◌, ◌<◌, Bool, false, cond, List, ◌∷◌, ◌++◌, reverse, take, length, get_or, Option, Some, None, refl, sym, ap, subst, ◌∙◌}
 use Rattle.std.specs.List.{find, filter}
 use Rattle.std.specs.Option.{option_and_then}
@@ -70,14 +70,16 @@ entry_comes stay move ranges b facts old new lawful goes are meter row there =
     (moved_latest move ranges facts b own.0 row lawful (are b.meter own.0 own.1) own.2))
     (λ apart. other_entry stay b facts meter row apart (are meter row (sym (goes.others meter apart) ∙ there)))
 
--- True if each cached point list, register list and state of a meter agrees with the records.
+-- True if each cached point list, list of accounting registers (named energy counters) and state of
+-- a meter is the one that follows from the records.
 pub record NamesAreTrue (kept : Known) (facts : List Fact) : Type 0 where
   pub lists : EachIs (λ device list. list_of facts device ≡ Some list) kept.lists
   pub registers : EachIs (λ device v. v.items ≡ registers_of facts device) kept.registers
   pub standing : EachIs (IsLatest facts) kept.standing
 
--- Suppose that a new record changes no device's point list or accounting registers, and no meter's
--- state. Then the cached results of these three kinds still agree with the records.
+-- Suppose that a new record changes no device's point list or accounting registers (named energy
+-- counters), and no meter's state. Then the cached results of these three kinds still follow from
+-- the records.
 quiet : (f : Fact) (facts : List Fact) (old new : Known) → ((device : List ℕ) → list_of (f ∷ facts) device ≡ list_of facts device)
     → ((device : List ℕ) → registers_of (f ∷ facts) device ≡ registers_of facts device)
     → ((meter : List ℕ) (row : Installation) → IsLatest facts meter row → IsLatest (f ∷ facts) meter row)
@@ -127,8 +129,8 @@ comes stay hold move ranges (fact.Outcome e) facts old new lawful changes are =
 comes stay hold move ranges (fact.Reply r) facts old new lawful changes are =
     quiet (fact.Reply r) facts old new (λ device. refl) (λ device. refl) (λ meter row is. latest_stays stay (fact.Reply r) facts meter row refl refl is) changes are
 
--- If a cache agrees with the records and is updated for one more record, then it agrees with the
--- records including this one.
+-- If all results in a cache follow from a store's records, and the cache is updated for one more
+-- record, then its results follow from the records including this one.
 pub all_comes : OtherMetersStay → HoldsChangeNothing → EntriesMoveOn → InstallationsAreInRange → (f : Fact) (facts : List Fact) (old mid new : Known) (polls : Polls)
     → AreLawful (f ∷ facts) → Changes f old mid → mid.polls ≡ old.polls → PollsChange f mid.polls polls
     → new.lists ≡ mid.lists → new.registers ≡ mid.registers → new.standing ≡ mid.standing → new.polls ≡ polls
@@ -143,8 +145,9 @@ all_comes stay hold move ranges f facts old mid new polls lawful changes same_po
       polls = subst (λ (p : Polls). PollsAreTrue p (f ∷ facts)) (sym own) there;
     }
 
--- A loop updates the cache for new records one by one. If the cache agrees with the store's records
--- after the first `i` new records, then also after the first `i + 1`.
+-- A loop updates the cache of lookup results for new records one by one. If the cached results
+-- follow from the store's records after the first `i` new records, then also after the first `i +
+-- 1`.
 pub one_more : (old now new : Known) (known facts : List Fact) (i : ℕ) (f : Fact) → i < length facts → f ≡ get_or facts i f
     → ((known : List Fact) → AreLawful (f ∷ known) → AreTrue now known → AreTrue new (f ∷ known))
     → (AreLawful (with_facts (take i facts) known) → AreTrue old known → AreTrue now (with_facts (take i facts) known))

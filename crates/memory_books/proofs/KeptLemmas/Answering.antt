@@ -1,4 +1,5 @@
--- Lemmas about a cache of lookup results by name.
+-- Lemmas about a cache of lookup results by name: which results change when a result is added or
+-- removed, and which properties the results keep.
 use Rattle.std.proofs.Common.{◌≡◌, ◌⊎◌, inl, inr, ℕ, false, List, Option, Some, None, sym, ap, subst, ◌∙◌, Result, Ok, Err, OnOk, OnErr, IfSome}
 use Rattle.std.specs.BTreeMap.{BTreeMap, get, Updates, IsUnchanged, is_at}
 use Rattle.std.specs.Map.{lookup}
@@ -14,11 +15,11 @@ use Rattle.memory_books.specs.Kept.Answers.{key_cmp, answer_to, EachIs, MayAnswe
 abbrev pub named : List ℕ → Key
 named name = record { name = name }
 
--- Two keys of the cache are equal if and only if their names are equal.
+-- Two keys of a cache of lookup results are equal if and only if their names are equal.
 pub is_eq-key_cmp : (a b : Key) → is_eq (key_cmp a b) ≡ same a.name b.name
 is_eq-key_cmp a b = is_eq-slice_cmp a.name b.name
 
--- If two names differ, then their keys in the cache differ.
+-- If two names differ, then their keys in a cache of lookup results differ.
 pub other_key : (name other : List ℕ) → same name other ≡ false → is_eq (key_cmp (named name) (named other)) ≡ false
 other_key name other apart = is_eq-slice_cmp name other ∙ apart
 
@@ -65,8 +66,8 @@ some_so so o x is h = subst (λ (p : Option _). IfSome p so) is h
 pub same_found : {T : Type 0} (said found : Option T) (x copy : T) → found ≡ said → found ≡ Some x → copy ≡ x → said ≡ Some copy
 same_found said found x copy is there same_one = cc
 
--- If a property holds for all cached results, then it still holds after another result with this
--- property is cached.
+-- If a property holds for all results of lookups that a store's cache contains, then it still holds
+-- after another result with this property is added to the cache.
 pub kept_too : {T : Type 0} (so : List ℕ → T → Type 0) (old new : Answers T) (name : List ℕ) (y : T) → MayAnswer name y old new → so name y
     → EachIs so old → EachIs so new
 kept_too {T} so old new name y may there are other x is =

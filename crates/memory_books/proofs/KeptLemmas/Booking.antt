@@ -1,4 +1,5 @@
--- Lemmas about adding records to a store with a cache.
+-- Lemmas: adding records to a store with a cache satisfies the guarantees of a write (the store
+-- gets all new records or, on an error, none).
 use Rattle.std.proofs.Common.{◌≡◌, true, false, List, [], refl, sym, subst, Result, Ok, Err}
 use Rattle.office_events.specs.declared.facts.Fact.{Fact}
 use Rattle.office_books.specs.Lawful.{AreLawful}
@@ -32,8 +33,8 @@ nothing_booked old new kept facts (Ok done) none books = record {
 nothing_booked old new kept facts (Err why) none books =
     let wrong : false ≡ true = (books.nothing none).0 in absurd (cc)
 
--- States that, if the cache agreed with the records before the call, then it agrees with the
--- records after `facts` are added.
+-- States that, if the cache `kept` agrees with a store's records, then the cache `after` agrees
+-- with these records and the added records `facts`.
 abbrev Comes : (kept after : Known) (facts : List Fact) → Type 0
 Comes kept after facts =
     (known : List Fact) → AreLawful (with_facts facts known) → AreTrue kept known → AreTrue after (with_facts facts known)
@@ -51,7 +52,7 @@ booked old new kept after given facts done some same comes books = record {
 }
 
 -- If a write to the underlying store fails and the cache is emptied, the store with the cache
--- satisfies the guarantees of a failed write.
+-- satisfies the guarantees of a failed write (no record was added).
 pub failed : (old new : Ledger) (kept after : Known) (facts : List Fact) (why : BooksFault) → (facts ≡ [] → ⊥)
     → ((known : List Fact) → AreTrue after known)
     → Books old new facts (Err why) → Books (keeping kept old) (keeping after new) facts (Err why)

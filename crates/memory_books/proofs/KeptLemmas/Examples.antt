@@ -1,4 +1,5 @@
--- Worked examples of lookup results that a cache cannot have if it agrees with the records.
+-- Worked examples of lookup results that a cache cannot have if each cached result follows from the
+-- store's records.
 use Rattle.std.proofs.Common.{◌≡◌, ◌≢◌, ℕ, List, Some, None, sym, ◌∙◌}
 use Rattle.office_events.specs.declared.facts.Fact.{Fact}
 use Rattle.office_events.specs.declared.questions.Installation.{Installation}

@@ -23,9 +23,9 @@ use Rattle.memory_books.specs.declared.kept.answers.Answers.{Answers}
 use Rattle.memory_books.specs.Kept.Answers.{answer_to, EachIs}
 use Rattle.memory_books.specs.Kept.Known.{IsLatest}
 
--- Suppose that a record concerns another meter, and installs no meter at this meter's accounting
--- register. If this meter was installed last at the register, this is still true, and its state is
--- unchanged.
+-- Suppose that a record concerns another meter than a given one, and installs no meter at the given
+-- meter's accounting register (a named energy counter). If the given meter was installed last at
+-- the register, this is still true, and its state is unchanged.
 pub latest_stays : OtherMetersStay → (f : Fact) (facts : List Fact) (meter : List ℕ) (row : Installation) → line_of row.opening.meter f ≡ None
     → installed_at (f ∷ facts) row.opening.register ≡ installed_at facts row.opening.register
     → IsLatest facts meter row → IsLatest (f ∷ facts) meter row
@@ -36,22 +36,23 @@ latest_stays law f facts meter row none same_one is = record {
 }
 
 -- Suppose that a meter's state agrees with the records, and that the meter was installed last at
--- its accounting register. Then a lookup by this register returns the state.
+-- its accounting register (a named energy counter). Then a lookup by this register returns the
+-- state.
 pub at_register : (facts : List Fact) (meter : List ℕ) (row : Installation) → IsLatest facts meter row
     → installation_at facts row.opening.register ≡ Some row
 at_register facts meter row is =
     ap (option_map (installation_of facts)) is.there ∙ ap (λ (r : Installation). let o : Option Installation = Some r in o) (sym is.stands)
 
--- If a cache agrees with the records and has the state of a meter, then a lookup by the meter's
--- accounting register returns this state.
+-- If a cache has a meter's state, and its results follow from the records, then a lookup by the
+-- meter's accounting register (a named energy counter) returns this state.
 pub at_its_register : (facts : List Fact) (rows : Answers Installation) (meter : List ℕ) (row : Option (Bor Installation))
     → option_copied row ≡ answer_to rows meter → EachIs (IsLatest facts) rows
     → IfSome row (λ r. installation_at facts r.now.opening.register ≡ Some r.now)
 at_its_register facts rows meter None is are = tt
 at_its_register facts rows meter (Some row) is are = at_register facts meter row.now (are meter row.now (sym is))
 
--- If a lookup by accounting register (a named energy counter) finds a meter's state, this state is
--- correct in the cache under the meter's name.
+-- If a lookup by accounting register (a named energy counter) finds a meter's state, this state
+-- follows from the records, and no meter was installed later at the register.
 found_so : (facts : List Fact) (register : List ℕ) (row : Installation) (found : Option Opening) → installed_at facts register ≡ found
     → option_map (installation_of facts) found ≡ Some row → IsLatest facts row.opening.meter row
 found_so facts register row None at is = absurd (cc)
@@ -70,7 +71,7 @@ pub found_latest : (facts : List Fact) (register : List ℕ) (row : Installation
 found_latest facts register row is = found_so facts register row (installed_at facts register) refl is
 
 -- Helper lemmas: after an entry of a meter is recorded and advances the meter's cached state, the
--- cached state agrees with the records.
+-- cached state is the one that follows from the records.
 sound_so : (row : Installation) → IsSound row → IsSound row
 sound_so row h = record { range = h.range; ceiling = h.ceiling; raw = h.raw; scale = h.scale; total = h.total }
 

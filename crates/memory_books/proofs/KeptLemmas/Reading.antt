@@ -1,5 +1,6 @@
--- Lemmas about lookups in a store with a cache, which returns either a cached result or the result
--- of the underlying store.
+-- Lemmas: lookups in a store with a cache satisfy the guarantees of a lookup (unchanged records,
+-- counted failures). Such a lookup returns either a cached result or the result of the underlying
+-- store.
 use Rattle.std.proofs.Common.{refl, Result, Ok, List}
 use Rattle.office_events.specs.declared.facts.Fact.{Fact}
 use Rattle.office_books.specs.declared.faults.BooksFault.{BooksFault}
@@ -8,8 +9,9 @@ use Rattle.memory_books.specs.declared.kept.known.Known.{Known}
 use Rattle.memory_books.specs.Kept.Known.{AreTrue}
 use Rattle.memory_books.specs.Kept.Keeping.{keeping}
 
--- Suppose that the underlying store answers a lookup, and the cache afterwards still agrees with
--- the records. Then the store with the cache satisfies the guarantees of a lookup.
+-- Suppose that the underlying store answers a lookup, and the cached results afterwards still
+-- follow from the records. Then the store with the cache satisfies the guarantees of a lookup
+-- (unchanged records, counted failures).
 pub asked : {T : Type 0} (old new : Ledger) (kept after : Known) (result : Result T BooksFault)
     → ((facts : List Fact) → old.holds facts → new.is_clean → AreTrue kept facts → AreTrue after facts)
     → OnlyReads old new result → OnlyReads (keeping kept old) (keeping after new) result

@@ -1,5 +1,5 @@
--- Lemmas: after one more record is added to a store, the updated cache of pending polls still
--- agrees with the store's records.
+-- Lemmas: after one more record is added to a store, the updated cache of pending polls (without an
+-- outcome) still has only polls that are pending in the store's records.
 use Rattle.std.proofs.Common.{◌≡◌, ◌⊎◌, inl, inr, ℕ, ◌<◌, ◌≤◌, ◌==◌, true, false, List, [], ◌∷◌, length, is_some, Option, Some, None, refl, sym, ap, subst, ◌∙◌, Result, Ok, Err, OnOk, OnErr, arith}
 use Rattle.std.specs.BTreeMap.{BTreeMap, get, Updates, IsUnchanged, is_at}
 use Rattle.std.specs.Map.{lookup}
@@ -22,7 +22,8 @@ use Rattle.memory_books.specs.declared.kept.polls.Polls.{Polls}
 use Rattle.memory_books.specs.Kept.Polls.{waiting_at, waits, PollsAreTrue, PollsChange}
 use Rattle.memory_books.proofs.KeptLemmas.Answering.{none_and_some, some_one}
 
--- If the records are valid, then their polls are numbered consecutively from 1.
+-- If a store's records are lawful (the rules for adding records accept each one after the earlier
+-- ones), then its polls are numbered consecutively from 1.
 numbered : (facts : List Fact) → AreLawful facts → AreNumbered (polls_in facts)
 numbered [] h = tt
 numbered (fact.Device d ∷ facts) h = numbered facts h.1
@@ -70,14 +71,15 @@ was_started : (facts : List Fact) (n : ℕ) (found : Option Poll) (row : PollRow
 was_started facts n None row at is = absurd (cc)
 was_started facts n (Some p) row at is = ap is_some at
 
--- Directly after a poll is started, it is pending.
+-- Directly after a poll is started, it is pending (without an outcome).
 starts : (p : Poll) (facts : List Fact) → AreLawful (fact.Poll p ∷ facts) → poll_row_of (fact.Poll p ∷ facts) p.number ≡ Some (waits p)
 starts p facts h =
     let fits : PollFits facts p = h.0.0 in
     let own : (p.number == p.number) ≡ true = grind (arith, nat_tests) in
     ap (option_map (poll_row (fact.Poll p ∷ facts))) (cond-true _ _ _ own) ∙ ap (row_so p) (no_end facts p.number h.1 (omega (arith, fits.number)))
 
--- After one poll is started, the rows of all other polls are unchanged.
+-- After one poll is started, the rows of all other polls (each poll with its outcome, if any) are
+-- unchanged.
 others : (p : Poll) (facts : List Fact) (n : ℕ) → (p.number == n) ≡ false → poll_row_of (fact.Poll p ∷ facts) n ≡ poll_row_of facts n
 others p facts n apart = ap (option_map (poll_row facts)) (cond-false _ _ _ apart)
 
@@ -107,7 +109,7 @@ poll_comes p facts old new h changes are = record {
       omega (arith, was, more);
 }
 
--- A pending poll is still pending after another poll ends.
+-- A pending poll (one without an outcome) is still pending after another poll ends.
 still_waits : (e : EndedPoll) (facts : List Fact) (n : ℕ) (found : Option Poll) → (e.poll == n) ≡ false
     → ((poll : Poll) → found ≡ Some poll → poll.number ≡ n)
     → option_map (poll_row (fact.Outcome e ∷ facts)) found ≡ option_map (poll_row facts) found
@@ -139,8 +141,8 @@ end_comes e facts old new changes are = record {
   started = λ count is. are.started count (sym changes.1 ∙ is);
 }
 
--- If a new record is neither a start nor an outcome of a poll, then the unchanged cached polls
--- still agree with the records.
+-- If a new record is neither a start nor an outcome of a poll, then the cached pending polls and
+-- number of polls remain unchanged. They still match the records, which include the new one.
 quiet : (f : Fact) (facts : List Fact) (old new : Polls) → ((n : ℕ) → poll_row_of (f ∷ facts) n ≡ poll_row_of facts n)
     → polls_in (f ∷ facts) ≡ polls_in facts → new ≡ old → PollsAreTrue old facts → PollsAreTrue new (f ∷ facts)
 quiet f facts old new rows polls same_one are =
@@ -172,8 +174,8 @@ poll_in (Ok was) old new p ok err n =
     ]
 poll_in (Err e) old new p ok err n = inl (ap (λ (es : List (ℕ × Poll)). lookup (is_at (nat_cmp n)) es) err)
 
--- If a lookup returned the number of polls, and this number is then cached, the cached polls still
--- agree with the records.
+-- If a lookup returned the number of polls, and this number is then cached, the cached polls and
+-- their number still follow from the records.
 pub count_kept : (old new : Polls) (facts : List Fact) (count : ℕ) → new.waiting ≡ old.waiting → new.started ≡ Some count
     → count ≡ length (polls_in facts) → PollsAreTrue old facts → PollsAreTrue new facts
 count_kept old new facts count waiting started is are = record {

@@ -1,4 +1,5 @@
--- Lemmas about lookups by key in the tables of a store in memory.
+-- Lemmas: lookups by key in the tables of a store in memory return the same results as searches of
+-- all records.
 use Rattle.std.proofs.Common.{◌≡◌, ℕ, ◌==◌, ◌&&◌, Bool, true, false, cond, List, [], ◌∷◌, reverse, length, Option, Some, None, refl, ap, ◌∙◌, Result, Ok, Err, IfOk}
 use Rattle.std.specs.List.{filter, filter_map, cons_option, slice_get}
 use Rattle.std.specs.Option.{option_and_then, option_map}

@@ -1,5 +1,5 @@
--- Lemmas about the interval rows of an accounting register (a named energy counter), which are the
--- interval rows of its meters one after another.
+-- Lemmas: the interval rows of an accounting register (a named energy counter) are the interval
+-- rows of its meters, one meter after another.
 use Rattle.std.proofs.Common.{◌≡◌, ◌⊎◌, ◌+◌, ◌<◌, ℕ, zero, suc, List, [], ◌∷◌, ◌++◌, reverse, take, length, get_or, inl, inr, Option, Some, None, refl, sym, ap, subst, ◌∙◌, arith}
 use Rattle.std.specs.List.{Contains, filter_map, flat_map, cons_option}
 use Rattle.std.proofs.lemmas.Grind.{flat_map-append}
@@ -52,8 +52,8 @@ recorded_at known facts place o is found =
     (subst (λ (os : List Opening). Contains os o) (filter_map_reverse as_opening known)
     (opening_there (reverse known) place o (ap (λ (fs : List Fact). opening_at fs place) (sym is) ∙ found)))
 
--- The interval rows (energy by quarter hour) of the first `i + 1` meters are those of the first `i`
--- meters, followed by those of the next meter.
+-- The interval rows (energy by quarter hour) of an accounting register's first `i + 1` meters are
+-- those of its first `i` meters, followed by those of the next meter.
 pub next_place : (known facts : List Fact) (places : List ℕ) (i d : ℕ) → i < length places
     → rows_at known facts (take (i + 1) places) ≡ rows_at known facts (take i places) ++ rows_at known facts (get_or places i d ∷ [])
 next_place known facts places i d less =
@@ -63,8 +63,8 @@ next_place known facts places i d less =
     ∙ ap rows (filter_map-append (opening_at facts) (take i places) (get_or places i d ∷ []))
     ∙ flat_map-append (rows_of_opening known) (opened (take i places)) (opened (get_or places i d ∷ []))
 
--- A meter has the same interval rows, whether it is looked up by its name or by the index of its
--- installation record.
+-- A meter has the same interval rows (energies by quarter hour), whether it is looked up by its
+-- name or by the index of its installation record.
 pub rows_there : (known facts : List Fact) (place : ℕ) (o : Opening) → AreLawful known → facts ≡ reverse known → opening_at facts place ≡ Some o
     → rows_of_meter known o.meter ≡ rows_at known facts (place ∷ [])
 rows_there known facts place o lawful is there =

@@ -1,4 +1,5 @@
--- Lemmas about the recorded installation of a meter, in valid records.
+-- Lemmas: in valid records, the counter value, energy and limits of each recorded meter are in
+-- range, and the rules for meter entries accept the meter's journal (history).
 use Rattle.std.proofs.Common.{◌≡◌, suc, Bool, List, [], ◌∷◌, Some, sym, subst, ◌∙◌, inl, inr, arith}
 use Rattle.std.specs.List.{find, Contains}
 use Rattle.std.proofs.lemmas.Bool.{cases_Bool, cond-true, cond-false}

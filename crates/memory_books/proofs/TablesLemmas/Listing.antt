@@ -1,5 +1,5 @@
--- Lemmas about the meters that were installed at an accounting register. A table has the indices of
--- their installation records.
+-- Lemmas: listing the meters of an accounting register (a named energy counter) by the indices of
+-- their installation records yields the state of each meter, in order.
 use Rattle.std.proofs.Common.{◌≡◌, ℕ, ◌+◌, ◌<◌, List, [], ◌∷◌, ◌++◌, map, reverse, take, length, get_or, Option, Some, None, refl, sym, ap, ◌∙◌}
 use Rattle.std.specs.List.{filter_map, cons_option}
 use Rattle.std.specs.Option.{option_map, option_to_list}

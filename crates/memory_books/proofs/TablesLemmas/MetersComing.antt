@@ -1,5 +1,5 @@
--- Lemmas: after one more record is added to a store, the updated table of meters agrees with the
--- store's records.
+-- Lemmas: after one more record is added to a store, the updated table of meters has the content
+-- that follows from the store's records.
 use Rattle.std.proofs.Common.{◌≡◌, ℕ, ◌+◌, ◌≤◌, ◌<◌, Bool, true, false, cond, ◌&&◌, List, [], ◌∷◌, reverse, length, Option, Some, None, Result, Ok, refl, sym, ap, subst, ◌∙◌}
 use Rattle.std.specs.Option.{option_map}
 use Rattle.std.specs.Ordering.{is_eq}
@@ -43,7 +43,8 @@ use Rattle.memory_books.proofs.TablesLemmas.Known.{known, found_is_there}
 use Rattle.memory_books.proofs.TablesLemmas.Passing.{rows_numbered, row_inside}
 use Rattle.memory_books.proofs.TablesLemmas.SameKeys.{is_eq-key_cmp}
 
--- If a key is the key of one meter, then it differs from the keys of all meters with other names.
+-- If a lookup key (a name and a number, which is 0 here) is made from one meter's name, it differs
+-- from the keys of all meters with other names.
 other_key : (meter name : List ℕ) (key : Key) → key ≡ named meter → same meter name ≡ false → is_eq (key_cmp key (named name)) ≡ false
 other_key meter name key is apart =
     ap (λ (k : Key). is_eq (key_cmp k (named name))) is ∙ is_eq-key_cmp (named meter) (named name) ∙ ap (λ (b : Bool). b && true) apart
@@ -86,8 +87,9 @@ begun old new opening key n is updates so = record {
   others = λ name apart. updates.2 (named name) (other_key opening.meter name key is apart);
 }
 
--- If a new record changes neither the state nor the entries of a meter, then the meter's unchanged
--- row still agrees with the records.
+-- If a new record changes neither the state nor the entries of a meter, the meter's row in the
+-- store's table of meters is unchanged. The row still has the content that follows from the
+-- records.
 stays_so : (f : Fact) (facts : List Fact) (meter : Option Meter) (found : Option Opening) → ((o : Opening) → found ≡ Some o → Stays f facts o)
     → IsMeter facts meter found → IsMeter (f ∷ facts) meter found
 stays_so f facts None found law is = is
@@ -95,14 +97,15 @@ stays_so f facts (Some m) found law is =
     let s = law is.opening is.there in
     record { opening = is.opening; there = is.there; row = is.row ∙ sym s.installation; rows = is.rows ∙ sym s.rows }
 
--- After a rejected reading is recorded, the unchanged table of meters still agrees with the
--- records.
+-- After a rejected reading is recorded, the unchanged table of meters still has the content that
+-- follows from the records.
 pub hold_comes : HoldsChangeNothing → (b : HeldReading) (facts : List Fact) (meters : Meters) → AreMeters meters facts → AreMeters meters (fact.Hold b ∷ facts)
 hold_comes law b facts meters are name =
     stays_so (fact.Hold b) facts (meter_at meters name) (opening_of facts name) (λ o there. law b facts o) (are name)
 
--- Suppose that a meter's row in the table agrees with the records. If an update leaves the row's
--- state and entries unchanged, the row still agrees with the records.
+-- Suppose that a meter's row in the table of meters of a store in memory has the content that
+-- follows from the store's records. If an update leaves the row's state and entries unchanged, the
+-- row still has this content.
 same_one : (facts : List Fact) (found : Option Opening) (before after : Option Meter) → IfThere IsSame before after → IsMeter facts before found → IsMeter facts after found
 same_one facts found None after gone is = subst (λ (m : Option Meter). IsMeter facts m found) (sym gone) is
 same_one facts found (Some m) after (n, there, so) is =
@@ -116,8 +119,9 @@ same_meters facts old new meter changes are name =
     (same_one facts (opening_of facts meter) (meter_at old meter) (meter_at new meter) changes.own (are meter)))
     (λ apart. subst (λ (m : Option Meter). IsMeter facts m (opening_of facts name)) (sym (changes.others name apart)) (are name))
 
--- Suppose that a new record concerns one meter, and that only this meter's row in the table changes
--- and is correct. Then the table of meters agrees with the records.
+-- Suppose that a new record concerns one meter, that only this meter's row in the in-memory table
+-- of meters changes, and that the new row follows from the records. Then the table has the content
+-- that follows from the records.
 line_comes : OtherMetersStay → (f : Fact) (facts : List Fact) (old new : Meters) (meter : List ℕ) (became : Option Meter → Option Meter → Type 0)
     → ((name : List ℕ) → opening_of (f ∷ facts) name ≡ opening_of facts name) → ((name : List ℕ) → same meter name ≡ false → line_of name f ≡ None)
     → Changes meter became old new → IsMeter (f ∷ facts) (meter_at new meter) (opening_of facts meter) → AreMeters old facts → AreMeters new (f ∷ facts)
@@ -133,7 +137,7 @@ no_line : (line : journal.Line) (b : Bool) → b ≡ false → let o : Option jo
 no_line line b is = cond-false _ _ _ is
 
 -- Helper lemmas: after an entry of a meter is recorded and added to the table of meters, the
--- meter's row agrees with the records.
+-- meter's row has the content that follows from the records.
 pub sound_so : (row : Installation) → IsSound row → IsSound row
 sound_so row h = record { range = h.range; ceiling = h.ceiling; raw = h.raw; scale = h.scale; total = h.total }
 
@@ -172,8 +176,8 @@ entry_comes law others ranges facts b old new lawful changes are =
     (λ name apart. no_line (journal.Entered b.kind b.entry) (same b.meter name) apart) changes
     (entered_one law ranges facts b lawful (meter_at old b.meter) (meter_at new b.meter) changes.own (are b.meter)) are
 
--- After an entry of a meter is voided (cancelled) in the records and in the table of meters, the
--- meter's row agrees with the records.
+-- After an entry of a meter is voided (cancelled) in the records and in the in-memory table of
+-- meters, the meter's row has the content that follows from the records.
 struck_one : JournalsFit → JournalsAreKept → InstallationsAreInRange → (facts : List Fact) (v : VoidedEntry) → AreLawful (fact.Void v ∷ facts) → (before after : Option Meter)
     → IfThere (HasStruck v.place) before after → IsMeter facts before (opening_of facts v.meter) → IsMeter (fact.Void v ∷ facts) after (opening_of facts v.meter)
 struck_one fit kept ranges facts v lawful None after gone is =
@@ -220,8 +224,8 @@ void_comes others fit kept ranges facts v old new lawful changes are =
     (λ name apart. no_line (journal.Voided v.place) (same v.meter name) apart) changes
     (struck_one fit kept ranges facts v lawful (meter_at old v.meter) (meter_at new v.meter) changes.own (are v.meter)) are
 
--- After the installation of a meter is recorded and added to the table of meters, the meter's row
--- agrees with the records.
+-- Suppose that the installation of a meter is recorded and added to the table of meters in a store
+-- in memory. Then the row of the meter has the content that follows from the records.
 pub opening_comes : OpeningsBegin → OtherMetersStay → (facts : List Fact) (o : Opening) (old new : Meters) → AreLawful (fact.Opening o ∷ facts)
     → Changes o.meter (Begins o) old new → AreMeters old facts → AreMeters new (fact.Opening o ∷ facts)
 opening_comes law others facts o old new lawful changes are name =

@@ -1,4 +1,5 @@
--- Lemmas about the rows of a meter's journal (history), entry by entry.
+-- Lemmas about the entry rows of a meter's journal (history): their sequence numbers are
+-- consecutive, and a void (cancellation) does not change them.
 use Rattle.std.proofs.Common.{◌≡◌, ℕ, suc, ◌+◌, ◌<◌, ◌≤◌, ◌==◌, ◌&&◌, List, [], ◌∷◌, length, refl, sym, ap, subst, ◌∙◌, inl, inr, Option, Some, None, arith}
 use Rattle.std.specs.Option.{option_map}
 use Rattle.std.proofs.lemmas.Bool.{cases_Bool, cond-true, cond-false, eqb-true}

@@ -1,5 +1,5 @@
--- Lemmas: after one more record is added to a store, the updated table of record indices by key
--- agrees with the store's records.
+-- Lemmas: after one more record is added to a store, the updated table of record indices by key has
+-- the content that follows from the store's records.
 use Rattle.std.proofs.Common.{◌≡◌, ℕ, cond, List, [], ◌∷◌, ◌++◌, reverse, length, Some, sym, ap, ◌∙◌, inl, inr, Result, Ok, Err, OnOk, OnErr}
 use Rattle.std.specs.BTreeMap.{BTreeMap, get, get_by}
 use Rattle.std.specs.declared.vec.Vec.{Vec}
@@ -14,7 +14,7 @@ use Rattle.memory_books.specs.Tables.Places.{key_in, is_key, has_key, places_of,
 use Rattle.memory_books.proofs.TablesLemmas.SameKeys.{is_eq-key_cmp, one_key}
 
 -- Suppose that a new record's index is appended to the table's list for the record's key, and to no
--- other list. Then the table agrees with the records.
+-- other list. Then the table has the content that follows from the records.
 pub place_comes : (kind : Kind) (known : List Fact) (f : Fact) (key : Key) (place : ℕ) (before after : Key → List ℕ) → length known ≡ place → key_in kind f ≡ Some key
     → ((other : Key) → before other ≡ reverse (places_of (has_key kind other) known))
     → ((other : Key) → after other ≡ cond (is_eq (key_cmp key other)) (before key ++ place ∷ []) (before other))
@@ -34,8 +34,8 @@ place_comes kind known f key place before after long own says adds other =
           ∙ sym (ap reverse (cond-false _ _ _ (has ∙ e)))
     ]
 
--- If a table's list of indices for one key is replaced by an equal list, then the lists for all
--- keys are unchanged.
+-- If the list of indices that a map stores for one key is replaced by an equal list, then the map
+-- has the same list for each key as before.
 pub kept_under : {Z : Type 0} (old new : BTreeMap Key (Vec ℕ Z)) (key : Key) (w v : Vec ℕ Z) → get_by (key_cmp key) old ≡ Some v → w.items ≡ v.items
     → ((q : Key) → get key_cmp new q ≡ cond (is_eq (key_cmp key q)) (Some w) (get key_cmp old q))
     → (other : Key) → under (get key_cmp new other) ≡ under (get key_cmp old other)

@@ -1,5 +1,5 @@
--- Lemmas: after one more record is added to a store, the updated tables of polls agree with the
--- store's records.
+-- Lemmas: after one more record is added to a store, the updated tables of polls have the content
+-- that follows from the store's records.
 use Rattle.std.proofs.Common.{◌≡◌, ◌⊎◌, ℕ, ◌-◌, ◌<◌, ◌≤◌, ◌==◌, Bool, true, false, cond, ◌&&◌, not, List, [], ◌∷◌, ◌++◌, map, reverse, length, get_or, Option, None, refl, sym, ap, ◌∙◌, inl, inr, arith}
 use Rattle.std.specs.Prelude.{is_some, slice_set}
 use Rattle.std.specs.List.{find, filter, slice_get}
@@ -22,7 +22,8 @@ use Rattle.office_books.specs.Readings.{poll_row, poll_row_of}
 use Rattle.office_books.proofs.Lists.{reverse_cons, get_last, get_others}
 use Rattle.memory_books.specs.Tables.Polls.{row_with_end, polls_but}
 
--- If the records are valid, then their polls are numbered consecutively from 1.
+-- If a store's records are lawful (the rules for adding records accept each one after the earlier
+-- ones), then its polls are numbered consecutively from 1.
 pub numbered : (known : List Fact) → AreLawful known → AreNumbered (polls_in known)
 numbered [] h = tt
 numbered (fact.Device d ∷ known) h = numbered known h.1
@@ -86,7 +87,8 @@ poll_comes known p h =
     ap (λ (o : Option EndedPoll). map (poll_row known) (reverse (polls_in known)) ++ row_so p o ∷ []) (sym none.1)
     ∙ sym (ap (map (poll_row known)) (reverse_cons p (polls_in known)) ∙ map-append (poll_row known) (reverse (polls_in known)) (p ∷ []))
 
--- After a poll gets its outcome, the rows of all other polls are unchanged.
+-- After a poll gets its outcome, the rows of all other polls in the in-memory table (each poll with
+-- its outcome, if any) are unchanged.
 row_past : (known : List Fact) (e : EndedPoll) (p : Poll) → (e.poll == p.number) ≡ false → poll_row (fact.Outcome e ∷ known) p ≡ poll_row known p
 row_past known e p other = ap (row_so p) (cond-false _ _ _ other)
 
@@ -104,8 +106,8 @@ rows_past known e (p ∷ polls) h beyond =
     ∙ ap (λ (row : PollRow). map (poll_row known) (reverse polls) ++ row ∷ []) one
     ∙ sym (ap (map (poll_row known)) (reverse_cons p polls) ∙ map-append (poll_row known) (reverse polls) (p ∷ []))
 
--- The table of polls `rows` after the poll at index `i` got the outcome `e`. All other polls are
--- unchanged.
+-- The in-memory table of polls `rows` after the poll at index `i` got the outcome `e`. All other
+-- polls are unchanged.
 abbrev ended_in_place : EndedPoll → PollRow → List PollRow → ℕ → List PollRow
 ended_in_place e d rows i = slice_set rows i (row_with_end e (get_or rows i d))
 

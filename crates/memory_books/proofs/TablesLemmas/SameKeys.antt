@@ -1,4 +1,5 @@
--- Lemmas about equal keys of lookups. A key is a name, or a name and a number.
+-- Lemmas: two keys of lookups compare as equal if and only if they are identical. A key is a name,
+-- or a name and a number.
 use Rattle.std.proofs.Common.{◌≡◌, ℕ, ◌==◌, ◌&&◌, Bool, true, false, List, refl, ap, ◌∙◌, arith}
 use Rattle.std.specs.Ordering.{is_eq, nat_cmp, ordering_then}
 use Rattle.std.specs.Cmp.Lexicographic.{slice_cmp}

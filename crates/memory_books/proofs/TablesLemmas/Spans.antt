@@ -1,5 +1,5 @@
--- Lemmas about queries that pass a row to a sink only if the row's quarter hour is in the requested
--- time span.
+-- Lemmas: a query passes exactly the rows in the requested time span if it passes each row to a
+-- sink only if the row's quarter hour is in the span.
 use Rattle.std.proofs.Common.{◌≡◌, true, false, List, [], ◌∷◌, ◌++◌, refl, sym, subst}
 use Rattle.std.proofs.lemmas.Bool.{cond-true, cond-false}
 use Rattle.std.proofs.lemmas.List.Elements.{filter-append}
@@ -27,8 +27,8 @@ within_append : (span : Span) (xs ys : List Share) → rows_within span (xs ++ y
 within_append All xs ys = refl
 within_append (Between from till) xs ys = filter-append _ xs ys
 
--- If a row's quarter hour is in the time span, the sink gets the row. Otherwise the sink is
--- unchanged.
+-- If a row's quarter hour is in the requested time span, the sink (a consumer of rows) gets the
+-- row. Otherwise the sink is unchanged.
 pub took_one : {S : Type 0} (takes : S → Share → S → Type 0) (span : Span) (before after : S) (row : Share) → is_within span row.start ≡ true → takes before row after
     → TakesWithin takes span before row after
 took_one takes span before after row is took =
@@ -40,8 +40,8 @@ left_one takes span before row is =
     let P : List Share → Type 0 = λ rows. TakesAll takes before rows before in
     subst P (sym (within_none span row is)) refl
 
--- If a sink gets each row only if its quarter hour is in the time span, then the sink gets exactly
--- the rows in the span.
+-- If a sink gets each row only if the row's quarter hour is in the time span, then the sink gets
+-- exactly the rows in the span.
 pub takes_asked : {S : Type 0} (takes : S → Share → S → Type 0) (span : Span) (before after : S) (rows : List Share)
     → TakesAll (TakesWithin takes span) before rows after → TakesAll takes before (rows_within span rows) after
 takes_asked takes span before after [] h =

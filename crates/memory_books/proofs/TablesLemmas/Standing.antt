@@ -1,4 +1,5 @@
--- Lemmas about records that are found by their indices in the list of all records.
+-- Lemmas: the indices that a predicate selects in the list of all records lead to the records that
+-- satisfy the predicate. New records do not change earlier indices.
 use Rattle.std.proofs.Common.{◌≡◌, ℕ, ◌<◌, ◌≤◌, ◌-◌, Bool, true, false, cond, List, [], ◌∷◌, reverse, length, Option, Some, None, refl, sym, ap, ◌∙◌, inl, inr, suc, arith}
 use Rattle.std.specs.List.{find, filter, filter_map, cons_option, slice_get}
 use Rattle.std.specs.Option.{option_and_then}
@@ -30,7 +31,7 @@ agree_first : {X : Type 0} (g k : ℕ → Option X) (n : ℕ) (xs : List ℕ) �
 agree_first g k n [] same h = refl
 agree_first g k n (x ∷ xs) same h = same x h.0
 
--- After a record is appended to a list, the earlier records have the same indices.
+-- After a record is appended to a list, the earlier records keep their indices in the list.
 earlier_stand : (f : Fact) (known : List Fact) (i : ℕ) → i < length known → slice_get (reverse (f ∷ known)) i ≡ slice_get (reverse known) i
 earlier_stand f known i h =
     ap (λ (fs : List Fact). slice_get fs i) (reverse_cons f known)
@@ -40,8 +41,8 @@ last_stands : (f : Fact) (known : List Fact) → slice_get (reverse (f ∷ known
 last_stands f known =
     ap (λ (fs : List Fact). slice_get fs (length known)) (reverse_cons f known) ∙ get_last (reverse known) f (length known) (sym (length-reverse known))
 
--- Suppose that a test selects the indices of some records. The records at these indices are exactly
--- the records that pass the test.
+-- If a predicate selects the indices of some records, then the records at these indices are exactly
+-- the records that satisfy the predicate.
 facts_at : (p : Fact → Bool) (known : List Fact) → filter_map (slice_get (reverse known)) (places_of p known) ≡ filter p known
 facts_at p [] = refl
 facts_at p (f ∷ known) =
@@ -68,7 +69,7 @@ first_at p (f ∷ known) =
           ∙ first_at p known ∙ sym (cond-false _ _ _ e)
     ]
 
--- True if a record contains a value of the wanted kind, and the value passes the test.
+-- True if an optional value, taken from a record, is present and satisfies the given predicate.
 abbrev pub passes : {Y : Type 0} → (Y → Bool) → Option Y → Bool
 passes q None = false
 passes q (Some y) = q y
@@ -88,8 +89,8 @@ filter_map-cond : {X Y : Type 0} (h : X → Option Y) (b : Bool) (x : X) (xs : L
 filter_map-cond h true x xs = refl
 filter_map-cond h false x xs = refl
 
--- Filtering records by a test and then selecting one kind has the same result as selecting the kind
--- and then filtering by an equivalent test.
+-- Filtering records by a predicate and then selecting one kind has the same result as selecting the
+-- kind and then filtering by an equivalent predicate.
 of_kind : {X Y : Type 0} (h : X → Option Y) (p : X → Bool) (q : Y → Bool) → ((x : X) → p x ≡ passes q (h x)) → (xs : List X)
     → filter_map h (filter p xs) ≡ filter q (filter_map h xs)
 of_kind h p q is [] = refl
@@ -128,8 +129,8 @@ pub filter_map_twice : {X Y Z : Type 0} (g : X → Option Y) (h : Y → Option Z
 filter_map_twice g h [] = refl
 filter_map_twice g h (x ∷ xs) = cons_twice h (g x) (filter_map (λ y. option_and_then h (g y)) xs) (filter_map g xs) (filter_map_twice g h xs)
 
--- A test selects the indices of records of one kind. The records at these indices are the records
--- of this kind that pass the test, in the order in which they were added.
+-- Suppose that a predicate selects the indices of records of one kind. The records at these indices
+-- are the records of this kind that satisfy the predicate, in the order in which they were added.
 pub all_at : {Y : Type 0} (h : Fact → Option Y) (p : Fact → Bool) (q : Y → Bool) → ((f : Fact) → p f ≡ passes q (h f)) → (known : List Fact)
     → filter_map (λ i. option_and_then h (slice_get (reverse known) i)) (reverse (places_of p known)) ≡ reverse (filter q (filter_map h known))
 all_at h p q is known =
@@ -137,8 +138,8 @@ all_at h p q is known =
     ∙ ap (filter_map h) (filter_map_reverse (slice_get (reverse known)) (places_of p known) ∙ ap reverse (facts_at p known))
     ∙ filter_map_reverse h (filter p known) ∙ ap reverse (of_kind h p q is known)
 
--- A test selects the indices of records of one kind. The record at the latest of these indices is
--- the latest record of this kind that passes the test.
+-- Suppose that a predicate selects the indices of records of one kind. The record at the latest of
+-- these indices is the latest record of this kind that satisfies the predicate.
 pub latest_at : {Y : Type 0} (h : Fact → Option Y) (p : Fact → Bool) (q : Y → Bool) → ((f : Fact) → p f ≡ passes q (h f)) → (known : List Fact)
     → option_and_then (λ i. option_and_then h (slice_get (reverse known) i)) (slice_get (places_of p known) 0) ≡ find q (filter_map h known)
 latest_at h p q is known =
@@ -159,8 +160,8 @@ count_at : {Y : Type 0} (h : Fact → Option Y) (p : Fact → Bool) (q : Y → B
 count_at h p q is [] = refl
 count_at h p q is (f ∷ known) = count_step q (h f) (p f) (length known) (places_of p known) (filter_map h known) (is f) (count_at h p q is known)
 
--- A test selects the indices of records of one kind. There are as many selected indices as records
--- of this kind that pass the test.
+-- Suppose that a predicate selects the indices of records of one kind. There are as many selected
+-- indices as records of this kind that satisfy the predicate.
 pub counted_at : {Y : Type 0} (h : Fact → Option Y) (p : Fact → Bool) (q : Y → Bool) → ((f : Fact) → p f ≡ passes q (h f)) → (known : List Fact)
     → length (reverse (places_of p known)) ≡ length (reverse (filter q (filter_map h known)))
 counted_at h p q is known =

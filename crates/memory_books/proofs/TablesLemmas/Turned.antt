@@ -1,4 +1,5 @@
--- Lemmas about reversed lists of records.
+-- Lemmas: selecting or filtering elements of a reversed list of records yields the selected
+-- elements in reverse order.
 use Rattle.std.proofs.Common.{◌≡◌, Bool, List, [], ◌∷◌, ◌++◌, reverse, refl, sym, ap, ◌∙◌, Option, Some, None}
 use Rattle.std.specs.List.{filter, filter_map, cons_option}
 use Rattle.std.proofs.lemmas.List.{append-nil, reverse-reverse}
@@ -20,8 +21,8 @@ filter_map_reverse h (x ∷ xs) =
 pub turned : {X Y : Type 0} (h : X → Option Y) (xs : List X) → filter_map h xs ≡ reverse (filter_map h (reverse xs))
 turned h xs = sym (ap reverse (filter_map_reverse h xs) ∙ reverse-reverse (filter_map h xs))
 
--- Selecting records that pass a test from a reversed list yields the selected records in reverse
--- order.
+-- Selecting records that satisfy a predicate from a reversed list yields the selected records in
+-- reverse order.
 pub turned_among : {X Y : Type 0} (h : X → Option Y) (p : Y → Bool) (xs : List X)
     → filter p (filter_map h xs) ≡ reverse (filter p (filter_map h (reverse xs)))
 turned_among h p xs = ap (filter p) (turned h xs) ∙ filter_reverse p (filter_map h (reverse xs))

@@ -1,5 +1,6 @@
--- Lemmas about the query that adds up energy by quarter hour. The query passes a quarter hour's row
--- to a sink as soon as no further energy can belong to this quarter hour.
+-- Lemmas: the query that adds up energy by quarter hour passes all rows to a sink (a consumer of
+-- rows). It passes a quarter hour's row as soon as no further energy can belong to this quarter
+-- hour.
 use Rattle.std.proofs.Common.{◌≡◌, ◌+◌, ◌*◌, ◌^◌, ◌<◌, ◌≤◌, List, [], ◌∷◌, ◌++◌, Option, Some, None, refl, sym, ap, subst, ◌∙◌, arith, append_assoc}
 use Rattle.std.specs.Option.{ForSome, option_to_list}
 use Rattle.std.proofs.lemmas.List.{append-nil}
@@ -32,8 +33,8 @@ no_done : (done rows : List Share) (waits : Option Share) → rows ≡ done ++ o
 no_done [] rows waits is none w = refl
 no_done (first ∷ done) rows waits is none w = absurd (let e : first ∷ (done ++ option_to_list waits) ≡ [] = sym is ∙ none w in cc)
 
--- If further quarter-hour energies are processed, the sink has received all resulting interval rows
--- except the last row, to which more energy may be added.
+-- If further quarter-hour energies are processed, the sink (a consumer of rows) has received all
+-- resulting interval rows except the last row, to which more energy may be added.
 pub took_more : {S : Type 0} (takes : S → Share → S → Type 0) (before now after : S) (waited waits : Option Share) (rows shares : List Share)
     → TookBut takes before now waited rows → Passes takes now after waited waits shares → TookBut takes before after waits (with_shares rows shares)
 took_more takes before now after waited waits rows shares took passes = record {
@@ -47,7 +48,8 @@ took_more takes before now after waited waits rows shares took passes = record {
       ap (λ (rs : List Share). with_shares rs shares) (took.none was.0) ∙ was.1;
 }
 
--- After the last interval row is passed to the sink, the sink has received all rows.
+-- After the last interval row (the energy of a quarter hour) is passed to the sink (a consumer of
+-- rows), the sink has received all rows.
 pub took_all : {S : Type 0} (takes : S → Share → S → Type 0) (before now after : S) (row : Share) (rows : List Share)
     → TookBut takes before now (Some row) rows → takes now row after → TakesAll takes before rows after
 took_all takes before now after row rows took more =
@@ -60,8 +62,9 @@ took_none takes before now rows took =
     let P : List Share → Type 0 = λ rs. TakesAll takes before rs now in
     subst P (sym (took.rows_are ∙ append-nil took.done)) took.took
 
--- The state of a query for interval rows in progress. The sink has received the interval rows of
--- all processed energies except the last row, and the energies `left` are not processed yet.
+-- The state of a query for interval rows in progress. The sink (a consumer of rows) has received
+-- the interval rows of all processed energies except the last row, and the energies `left` are not
+-- processed yet.
 pub record GoesBy {S : Type 0} (takes : S → Share → S → Type 0) (before after : S) (waited waits : Option Share) (shares left : List Share) : Type 0 where
   pub done : List Share
   pub took : TakesAll takes before done after
@@ -94,8 +97,8 @@ goes_by_whole law takes before after waited waits step left none forward goes = 
       (was.1, sym was.2 ∙ none);
 }
 
--- The sum of the last interval row's energy and the next quarter-hour energy, in mWh, fits in 64
--- bits.
+-- Suppose that the last interval row and the pending quarter-hour energies together are at most 4 *
+-- 10^18 mWh. Then the sum of this row's energy and the next pending energy fits in 64 bits.
 pub room : (waits : Option Share) (share : Share) (left rest : List Share) → left ≡ share ∷ rest
     → energy_of (option_to_list waits) + energy_of left ≤ 4 * 10 ^ 18 → ForSome waits (λ row. row.mwh + share.mwh < 2 ^ 64)
 room waits share left rest is within = λ row at.

@@ -1,4 +1,5 @@
--- Lemmas about all lookup tables of a store in memory.
+-- Lemmas: all lookup tables of a store in memory still have the content that follows from the
+-- records after records are appended or a table is updated.
 use Rattle.std.proofs.Common.{◌≡◌, List, ◌++◌, Some, reverse, subst, ◌∙◌}
 use Rattle.std.proofs.lemmas.Option.{same_Some}
 use Rattle.office_events.specs.declared.facts.Fact.{Fact}
@@ -16,8 +17,8 @@ use Rattle.memory_books.proofs.TablesLemmas.Coming.{come_with}
 places_come_with : (kind : Kind) (kept : Kept Places) (facts more : List Fact) → HasPlaces kind kept facts → HasPlaces kind kept (facts ++ more)
 places_come_with kind kept facts more has = record { come = come_with ArePlaces kept facts more has.come; kind_is = has.kind_is }
 
--- If records are appended to the store's list, each lookup table still agrees with the earlier
--- records, for which it was already updated.
+-- If records are appended to the store's list, each lookup table (an in-memory index of the
+-- records) still has the content that follows from the records before them.
 pub have_come_with : (tables : Tables) (facts more : List Fact) → HaveCome tables facts → HaveCome tables (facts ++ more)
 have_come_with tables facts more come = record {
   polls = come_with ArePolls tables.polls facts more come.polls;
@@ -30,8 +31,9 @@ have_come_with tables facts more come = record {
   meters = come_with AreMeters tables.meters facts more come.meters;
 }
 
--- Updating a table of record indices does not change its kind. Afterwards the table agrees with all
--- records for which it was updated.
+-- Suppose that a map from keys to record indices satisfies `HasPlaces`: it has a given kind (which
+-- records it finds by which key), and its content follows from the records. If an update preserves
+-- the kind and this relation, the map still satisfies `HasPlaces`.
 pub further : (kind : Kind) (old new : Kept Places) (facts : List Fact) → HasPlaces kind old facts → (HasCome ArePlaces old facts → HasCome ArePlaces new facts)
     → Some new.table.kind ≡ Some old.table.kind → HasPlaces kind new facts
 further kind old new facts has come same_kind =

@@ -1,4 +1,5 @@
--- The effect of new records on the cache of lookup results.
+-- The effect of new records on a cache of lookup results: the cached results of other devices and
+-- meters are unchanged. A result that a record concerns is updated, or is removed from the cache.
 use Rattle.std.specs.Prelude.{◌≡◌, ℕ, false, List, Some, None}
 use Rattle.office_events.specs.declared.facts.BookedEntry.{BookedEntry}
 use Rattle.office_events.specs.declared.facts.Fact.{Fact}
@@ -26,11 +27,12 @@ pub record EntryKeepsAnswers (booked : BookedEntry) (old new : Answers Installat
 abbrev pub SameLists : (old new : Known) → Type 0
 SameLists old new = new.lists ≡ old.lists
 
--- True if the cached lists of accounting registers (named energy counters) are unchanged.
+-- True if the cached lists of accounting registers (named energy counters) in `new` equal those in
+-- `old`.
 abbrev pub SameRegisters : (old new : Known) → Type 0
 SameRegisters old new = new.registers ≡ old.registers
 
--- True if the cached states of meters are unchanged.
+-- True if a change of the cache of lookup results leaves the cached states of meters unchanged.
 abbrev pub SameStanding : (old new : Known) → Type 0
 SameStanding old new = new.standing ≡ old.standing
 
@@ -42,7 +44,8 @@ pub record StaysKept (old new : Known) : Type 0 where
   pub standing : SameStanding old new
 
 -- The effect of a new record on the cache. A new point list removes the cached point list of its
--- device, and a new accounting register removes the cached register list of its device.
+-- device, and a new accounting register (a named energy counter) removes the cached register list
+-- of its device.
 --
 -- An installation of a meter removes the cached states of all meters, and a void (a cancelled
 -- entry) removes that of its meter. An entry advances the cached state of its meter.

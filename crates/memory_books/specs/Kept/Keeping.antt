@@ -8,7 +8,7 @@ use Rattle.memory_books.specs.declared.kept.kept.CachedBooks.{CachedBooks}
 use Rattle.memory_books.specs.Kept.Known.{AreTrue}
 
 -- The model of a store with a cache. It is the model of the underlying store, with one more
--- property: if this store returned no wrong result, the cache agrees with the records.
+-- property: if the underlying store returned no wrong result, the cache agrees with the records.
 abbrev pub keeping : Known → Ledger → Ledger
 keeping kept under = record {
   holds = λ facts. under.holds facts × (under.is_clean → AreTrue kept facts);
@@ -28,8 +28,9 @@ beneath kept = kept.books
 abbrev pub ledger_over : {B : Type 0} → (B → Ledger) → CachedBooks B → Ledger
 ledger_over ledger kept = keeping kept.known (ledger kept.books)
 
--- True if two stores have the same state. Both have the same records, the same records may remain
--- after a crash, and all other properties are equal.
+-- True if two stores have the same state: the same records, the same records that a crash may
+-- leave, the same failure counter and time zone. Both or neither are open, and both or neither are
+-- clean (every wrong result was detected).
 pub record StandsAs (before after : Ledger) : Type 0 where
   pub facts : (facts : List Fact) → before.holds facts → after.holds facts
   pub left : (left : List (List Fact)) → before.may_leave left → after.may_leave left

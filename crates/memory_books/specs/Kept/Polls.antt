@@ -1,5 +1,5 @@
--- The cached pending polls, the cached number of polls, and the effect of new records on these
--- caches.
+-- The cached pending polls (without an outcome), the cached number of polls, and the effect of new
+-- records on these caches.
 use Rattle.std.specs.Prelude.{◌≡◌, ◌⊎◌, ◌+◌, ◌==◌, ℕ, false, List, length, Option, Some, None}
 use Rattle.std.specs.BTreeMap.{get}
 use Rattle.std.specs.Ordering.{nat_cmp}
@@ -11,7 +11,8 @@ use Rattle.office_books.specs.Facts.{polls_in}
 use Rattle.office_books.specs.Readings.{poll_row_of}
 use Rattle.memory_books.specs.declared.kept.polls.Polls.{Polls}
 
--- The cached pending poll with this number, or `None` if the poll is not cached.
+-- The cached pending poll (without an outcome) with this number, or `None` if the poll is not
+-- cached.
 abbrev pub waiting_at : Polls → ℕ → Option Poll
 waiting_at polls number = get nat_cmp polls.waiting number
 
@@ -19,14 +20,15 @@ waiting_at polls number = get nat_cmp polls.waiting number
 abbrev pub waits : Poll → PollRow
 waits poll = record { poll = poll; ended = None }
 
--- True if each cached poll is pending in these records, and the cached number of polls, if any,
--- equals the number of recorded polls.
+-- True if each cached poll is pending (without an outcome) in these records, and the cached number
+-- of polls, if any, equals the number of recorded polls.
 pub record PollsAreTrue (polls : Polls) (facts : List Fact) : Type 0 where
   pub waiting : (number : ℕ) (poll : Poll) → waiting_at polls number ≡ Some poll
       → poll_row_of facts number ≡ Some (waits poll)
   pub started : (count : ℕ) → polls.started ≡ Some count → count ≡ length (polls_in facts)
 
--- True if the cached pending polls are unchanged, or changed only by adding this poll.
+-- True if the cached pending polls (without an outcome) are unchanged, or changed only by adding
+-- this poll.
 abbrev pub MayWait : Poll → (before after : Polls) → Type 0
 MayWait poll before after = (number : ℕ)
     → (waiting_at after number ≡ waiting_at before number)

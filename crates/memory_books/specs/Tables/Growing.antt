@@ -1,5 +1,6 @@
--- Defines when a lookup table agrees with the store's records. A table is updated for the records
--- one by one. A lookup first updates the table for the records that it lacks.
+-- Defines when a lookup table has the content that follows from the store's records. A table is
+-- updated for the records one by one. A lookup first updates the table for the records that it
+-- lacks.
 use Rattle.std.specs.Prelude.{◌≤◌, List, reverse, take, length}
 use Rattle.office_events.specs.declared.facts.Fact.{Fact}
 use Rattle.memory_books.specs.declared.tables.table.Kept.{Kept}
@@ -9,8 +10,8 @@ use Rattle.memory_books.specs.declared.tables.table.Kept.{Kept}
 abbrev pub latest_first : List Fact → List Fact
 latest_first facts = reverse facts
 
--- True if the lookup table was updated for the first `kept.count` records of the list, and agrees
--- with these records.
+-- True if the lookup table was updated for the first `kept.count` records of the list, and has the
+-- content that follows from these records.
 pub record HasCome {T : Type 0} (says : T → List Fact → Type 0) (kept : Kept T)
     (facts : List Fact) : Type 0 where
   pub few : kept.count ≤ length facts

@@ -17,8 +17,8 @@ use Rattle.office_events.specs.declared.facts.Fact.{Fact}
 use Rattle.office_books.specs.Intervals.{rows_of_opening}
 use Rattle.memory_books.specs.Tables.Lookups.{opening_at}
 
--- True if the sink received all of these quarter-hour rows except the last row. The last row is
--- kept back, because more energy may be added to it.
+-- True if the sink (a consumer of rows) received all of these quarter-hour rows except the last
+-- row. The last row is kept back, because more energy may be added to it.
 pub record TookBut {S : Type 0} (takes : S → Share → S → Type 0) (before after : S)
     (waits : Option Share) (rows : List Share) : Type 0 where
   pub done : List Share
@@ -26,8 +26,9 @@ pub record TookBut {S : Type 0} (takes : S → Share → S → Type 0) (before a
   pub rows_are : rows ≡ done ++ option_to_list waits
   pub none : waits ≡ None → rows ≡ []
 
--- The effect of further quarter-hour energies on the sink of quarter-hour rows. The sink receives
--- each finished row. The last row is kept back, because more energy may be added to it.
+-- The effect of further quarter-hour energies on a sink (a consumer of rows) that receives
+-- quarter-hour rows. The sink receives each finished row. The last row is kept back, because more
+-- energy may be added to it.
 pub record Passes {S : Type 0} (takes : S → Share → S → Type 0) (before after : S)
     (waited waits : Option Share) (shares : List Share) : Type 0 where
   pub done : List Share
@@ -40,18 +41,18 @@ pub record Passes {S : Type 0} (takes : S → Share → S → Type 0) (before af
 abbrev pub rows_at : (known facts : List Fact) → (places : List ℕ) → List Share
 rows_at known facts places = flat_map (rows_of_opening known) (filter_map (opening_at facts) places)
 
--- True if the sink changed only by receiving quarter-hour rows.
+-- True if the sink (a consumer of rows) changed only by receiving quarter-hour rows.
 abbrev pub TakesSome : {S : Type 0} → (takes : S → Share → S → Type 0) → (before after : S) → Type 0
 TakesSome takes before after = (rows : List Share) × TakesAll takes before rows after
 
--- True if the sink received the row, or if the row's quarter hour is outside the time span and the
--- sink is unchanged.
+-- True if the sink (a consumer of rows) received the row, or if the row's quarter hour is outside
+-- the time span and the sink is unchanged.
 abbrev pub TakesWithin : {S : Type 0} → (takes : S → Share → S → Type 0) → Span → (before : S)
     → Share → (after : S) → Type 0
 TakesWithin takes span before row after = TakesAll takes before (rows_within span (row ∷ [])) after
 
--- States that, if the rules accept the meter's valid entries one after another, the sink received
--- the quarter-hour rows of the meter.
+-- States that, if the rules for meter entries accept the meter's valid entries one after another,
+-- the sink (a consumer of rows) received the quarter-hour rows of the meter.
 abbrev pub TakesRowsOf : {S : Type 0} → (takes : S → Share → S → Type 0) → (before : S)
     → Installed → List EntryRow → (after : S) → Type 0
 TakesRowsOf takes before meter rows after =

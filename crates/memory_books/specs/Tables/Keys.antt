@@ -10,7 +10,7 @@ use Rattle.memory_books.specs.declared.tables.keys.Key.{Key}
 abbrev pub key_cmp : Key → Key → Ordering
 key_cmp = then_cmp (on (λ k. k.name) (slice_cmp nat_cmp)) (on (λ k. k.number) nat_cmp)
 
--- The key of a lookup by name only, with the number 0.
+-- The key of a lookup by name only. Its number, which other lookups use beside the name, is 0.
 abbrev pub named : List ℕ → Key
 named name = record { name = name; number = 0 }
 

@@ -23,8 +23,8 @@ listed f = option_and_then (λ put. if_some put.list.points put.list) (as_list f
 abbrev pub repeated : (request : List ℕ) → Fact → Option Repeat
 repeated request f = option_map (as_repeat request) (as_reply f)
 
--- The accounting register in the record at an index of the list of records, or `None` if the record
--- is of another kind.
+-- The accounting register (a named energy counter) in the record at an index of the list of
+-- records, or `None` if the record is of another kind.
 abbrev pub register_at : List Fact → ℕ → Option Register
 register_at facts place = option_and_then as_register (slice_get facts place)
 
@@ -38,8 +38,8 @@ if_read span register = if is_read_by span register then Some register else None
 abbrev pub register_read : ReadSpan → Fact → Option Register
 register_read span f = option_and_then (if_read span) (as_register f)
 
--- The accounting register in the record at an index, or `None` if the record has no accounting
--- register that the Modbus read covers.
+-- The accounting register (a named energy counter) in the record at the index `place`. `None` if
+-- the record has no accounting register that the Modbus read `span` covers.
 abbrev pub register_read_at : ReadSpan → List Fact → ℕ → Option Register
 register_read_at span facts place = option_and_then (register_read span) (slice_get facts place)
 

@@ -1,4 +1,4 @@
--- The table of meters, in which a search by name finds a meter.
+-- The table of meters in the store in memory: a map that finds a meter by its name.
 use Rattle.std.specs.Prelude.{◌≡◌, ℕ, false, List, Option, Some, None}
 use Rattle.std.specs.BTreeMap.{get}
 use Rattle.meter_journal.specs.Lists as lists
@@ -30,14 +30,14 @@ abbrev pub IsMeter : List Fact → Option Meter → Option Opening → Type 0
 IsMeter known None found = found ≡ None
 IsMeter known (Some meter) found = Stands known meter found
 
--- True if the table has exactly the recorded meters, and the state and the entries of each meter
--- are those that follow from the records.
+-- True if the table of meters in memory has exactly the recorded meters. The state and the entries
+-- of each meter are those that follow from the records.
 abbrev pub AreMeters : Meters → List Fact → Type 0
 AreMeters meters known =
     (name : List ℕ) → IsMeter known (meter_at meters name) (opening_of known name)
 
--- True if the meter with this name changed in the table as `became` describes, and all other meters
--- are unchanged.
+-- True if the meter with this name changed in the table as the relation `became` describes, and all
+-- other meters are unchanged.
 pub record Changes (meter : List ℕ) (became : Option Meter → Option Meter → Type 0)
     (old new : Meters) : Type 0 where
   pub own : became (meter_at old meter) (meter_at new meter)

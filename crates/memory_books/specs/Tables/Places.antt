@@ -16,8 +16,8 @@ use Rattle.memory_books.specs.declared.tables.places.Kind.TheVariants.{DeviceLis
 use Rattle.memory_books.specs.declared.tables.places.Places.{Places}
 use Rattle.memory_books.specs.Tables.Keys.{key_cmp, named, numbered, is_same_key}
 
--- The key of a point list (the Modbus registers to read) in a table of this kind, or `None` if the
--- table does not index point lists.
+-- The key of a point list (the Modbus registers to read) in a table of record indices of the given
+-- kind. `None` if the table does not index point lists.
 abbrev pub list_key : Kind → DeviceList → Option Key
 list_key DeviceLists put = Some (named put.device)
 list_key Registers put = None
@@ -25,8 +25,8 @@ list_key DeviceRegisters put = None
 list_key RegisterOpenings put = None
 list_key Replies put = None
 
--- The key of an accounting register (a named energy counter) in a table of this kind, or `None` if
--- the table does not index registers.
+-- The key of an accounting register (a named energy counter) in a table of record indices of the
+-- given kind, or `None` if the table does not index registers.
 abbrev pub register_key : Kind → Register → Option Key
 register_key DeviceLists register = None
 register_key Registers register = Some (named register.name)
@@ -34,8 +34,8 @@ register_key DeviceRegisters register = Some (named register.device)
 register_key RegisterOpenings register = None
 register_key Replies register = None
 
--- The key of an opening (the installation of a meter) in a table of this kind, or `None` if the
--- table does not index openings.
+-- The key of an opening (the installation of a meter) in a table of record indices of the given
+-- kind, or `None` if the table does not index openings.
 abbrev pub opening_key : Kind → Opening → Option Key
 opening_key DeviceLists opening = None
 opening_key Registers opening = None
@@ -43,8 +43,8 @@ opening_key DeviceRegisters opening = None
 opening_key RegisterOpenings opening = Some (named opening.register)
 opening_key Replies opening = None
 
--- The key of a stored response (to a request with an idempotency key) in a table of this kind, or
--- `None` if the table does not index responses.
+-- The key of a stored response (to a request with an idempotency key) in a table of record indices
+-- of the given kind. `None` if the table does not index responses.
 abbrev pub reply_key : Kind → Reply → Option Key
 reply_key DeviceLists reply = None
 reply_key Registers reply = None
@@ -52,7 +52,8 @@ reply_key DeviceRegisters reply = None
 reply_key RegisterOpenings reply = None
 reply_key Replies reply = Some (numbered reply.caller reply.number)
 
--- The key of a record in a table of this kind, or `None` if the table does not index the record.
+-- The key of a record in a table of record indices of the given kind, or `None` if the table does
+-- not index the record.
 abbrev pub key_in : Kind → Fact → Option Key
 key_in kind (fact.Device device) = None
 key_in kind (fact.List put) = list_key kind put
@@ -70,12 +71,12 @@ abbrev pub is_key : Key → Option Key → Bool
 is_key key None = false
 is_key key (Some own) = is_same_key own key
 
--- True if a table of this kind indexes the record under this key.
+-- True if a table of record indices of the given kind indexes the record under this key.
 abbrev pub has_key : Kind → Key → Fact → Bool
 has_key kind key f = is_key key (key_in kind f)
 
--- The indices of the records that pass the test, the latest first. Index 0 is the record that was
--- added first.
+-- The indices of the records that satisfy the given predicate, the latest first. Index 0 is the
+-- record that was added first.
 abbrev pub places_of : (Fact → Bool) → List Fact → List ℕ
 places_of p [] = []
 places_of p (f ∷ facts) = if p f then length facts ∷ places_of p facts else places_of p facts
@@ -85,7 +86,8 @@ abbrev pub under : {Z : Type 0} → Option (Vec ℕ Z) → List ℕ
 under None = []
 under (Some places) = places.items
 
--- The index of the latest record that passes the test, or `None` if no record passes the test.
+-- The index of the latest record that satisfies the given predicate, or `None` if no record
+-- satisfies it.
 abbrev pub latest_place : (Fact → Bool) → List Fact → Option ℕ
 latest_place p known = slice_get (places_of p known) 0
 
@@ -97,7 +99,8 @@ HaveOneMore key place before after =
     ≡ cond (is_eq (key_cmp key other)) (under (get key_cmp before.places key) ++ place ∷ [])
     (under (get key_cmp before.places other))
 
--- True if the record indices under each key of the table are unchanged.
+-- True if a map from keys to record indices, in a store in memory, has the same indices under each
+-- key as before.
 abbrev pub AreUnchanged : (before after : Places) → Type 0
 AreUnchanged before after =
     (other : Key) → under (get key_cmp after.places other) ≡ under (get key_cmp before.places other)
@@ -109,7 +112,7 @@ ArePlacesOf kind places known =
     (key : Key) → under (get key_cmp places.places key)
     ≡ reverse (places_of (has_key kind key) known)
 
--- True if the table has the indices of exactly those records that a table of its kind indexes, each
--- under the record's key.
+-- True if an in-memory lookup table maps each key to the indices of exactly those records that have
+-- this key. The table's kind decides what a record's key is.
 abbrev pub ArePlaces : Places → List Fact → Type 0
 ArePlaces places known = ArePlacesOf places.kind places known

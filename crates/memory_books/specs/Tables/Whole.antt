@@ -1,4 +1,5 @@
--- Definitions of when all lookup tables of a store in memory agree with its records.
+-- Definitions of when all lookup tables of a store in memory have the content that follows from its
+-- records.
 use Rattle.std.specs.Prelude.{◌≡◌, List, reverse}
 use Rattle.office_events.specs.declared.facts.Fact.{Fact}
 use Rattle.office_books.specs.Lawful.{AreLawful}
@@ -12,14 +13,14 @@ use Rattle.memory_books.specs.Tables.Meters.{AreMeters}
 use Rattle.memory_books.specs.Tables.Places.{ArePlaces, ArePlacesOf}
 use Rattle.memory_books.specs.Tables.Polls.{ArePolls, ArePending}
 
--- True if the table of record indices has this kind, and agrees with the first records of the list,
--- for which it was already updated.
+-- True if the table of record indices is of the kind `kind`. Its content must follow from those
+-- first records of the list `facts` for which the table was already updated.
 pub record HasPlaces (kind : Kind) (kept : Kept Places) (facts : List Fact) : Type 0 where
   pub come : HasCome ArePlaces kept facts
   pub kind_is : kept.table.kind ≡ kind
 
--- True if each lookup table of the store agrees with those first records of the list for which this
--- table was already updated.
+-- True if each lookup table of the store has the content that follows from those first records of
+-- the list for which this table was already updated.
 pub record HaveCome (tables : Tables) (facts : List Fact) : Type 0 where
   pub polls : HasCome ArePolls tables.polls facts
   pub pending : HasCome ArePending tables.pending facts
@@ -30,8 +31,8 @@ pub record HaveCome (tables : Tables) (facts : List Fact) : Type 0 where
   pub replies : HasPlaces Replies tables.replies facts
   pub meters : HasCome AreMeters tables.meters facts
 
--- True if each lookup table of the store agrees with all of these records. The latest record is the
--- first in the list.
+-- True if each lookup table of the store has the content that follows from all records in `known`.
+-- The latest record is the first in this list.
 pub record AreWhole (tables : Tables) (known : List Fact) : Type 0 where
   pub polls : ArePolls tables.polls.table known
   pub pending : ArePending tables.pending.table known
@@ -42,8 +43,9 @@ pub record AreWhole (tables : Tables) (known : List Fact) : Type 0 where
   pub replies : ArePlacesOf Replies tables.replies.table known
   pub meters : AreMeters tables.meters.table known
 
--- States that, if the records `facts` are valid and all lookup tables agree with them, a property
--- holds for these records. The property gets the records in reverse order, the latest first.
+-- States that, if the records `facts` are lawful and all lookup tables have the content that
+-- follows from them, a property holds for these records. The property gets the records in reverse
+-- order, the latest first.
 abbrev pub WhereWhole : Tables → (facts : List Fact) → (List Fact → Type 0) → Type 0
 WhereWhole tables facts so =
     (known : List Fact) → facts ≡ reverse known → AreLawful known → AreWhole tables known → so known

@@ -24,7 +24,8 @@ use office_events::{
 };
 use std::alloc::Global;
 
-/// The cached results of all kinds of lookups.
+/// The cached results of all kinds of lookups in a store: point lists, accounting registers (named
+/// energy counters), states of meters, and polls.
 #[derive(Drop)]
 pub(crate) struct Known {
     alloc: Global,
@@ -36,10 +37,10 @@ pub(crate) struct Known {
     /// last at its accounting register (a named energy counter).
     standing: Answers<Installation>,
     /// The name of the meter that was installed last at each accounting register (a named energy
-    /// counter), by the register's name. The name is not updated when another meter is installed
-    /// later.
+    /// counter) when the name was cached, by the register's name. The name is not updated when
+    /// another meter is installed later.
     meters: Answers<Name>,
-    /// The cached pending polls, and the cached number of started polls.
+    /// The cached pending polls (without an outcome), and the cached number of started polls.
     polls: Polls,
 }
 
@@ -47,7 +48,8 @@ impl Known {
     ghost use Rattle.memory_books.specs.Kept.Changes.{Changes};
     ghost use Rattle.memory_books.specs.Kept.Known.{AreTrue};
 
-    /// Creates an empty cache for all kinds of lookups.
+    /// Creates an empty cache for the results of lookups in a store: point lists, accounting
+    /// registers (named energy counters), states of meters, and polls.
     pub(crate) fn new(alloc: Global) -> Known
         ensures { (known : List Fact) → AreTrue result known }
     {
@@ -61,8 +63,8 @@ impl Known {
         }
     }
 
-    /// Returns a copy of the cached point list of a device, or `None` if no list is cached or
-    /// memory runs out.
+    /// Returns a copy of the cached point list (the Modbus registers to read) of a device, or
+    /// `None` if no list is cached or memory runs out.
     pub(crate) fn list(&self, device: &Name) -> Option<PlannedList>
         ensures { (known : List Fact) → AreTrue self.now known
             → IfSome result (λ list. list_of known device.now ≡ Some list) }
@@ -104,7 +106,8 @@ impl Known {
         }
     }
 
-    /// Caches the point list of a device, unless the device has no point list or memory runs out.
+    /// Caches the point list (the Modbus registers to read) of a device, unless the device has no
+    /// point list or memory runs out.
     pub(crate) fn keep_list(&mut self, device: &Name, found: &Option<PlannedList>)
         ensures { (known : List Fact) → found.now ≡ list_of known device.now
             → AreTrue self.old known → AreTrue self.new known }
@@ -135,7 +138,8 @@ impl Known {
     /// Returns copies of the cached accounting registers (named energy counters) of a device.
     /// Registers that the Modbus read does not cover are left out.
     ///
-    /// Returns `None` if the registers are not cached or memory runs out.
+    /// Returns `None` if the cache does not contain the device's accounting registers (named energy
+    /// counters), or if memory runs out for the copies.
     pub(crate) fn registers_read(&self, device: &Name, span: ReadSpan) -> Option<Vec<Register>>
         ensures { (known : List Fact) → AreTrue self.now known
             → IfSome result (λ v.
@@ -207,8 +211,8 @@ impl Known {
         }
     }
 
-    /// Caches the state of the meter that was installed last at an accounting register. Does
-    /// nothing if no meter was installed there or memory runs out.
+    /// Caches the state of the meter that was installed last at an accounting register (a named
+    /// energy counter). Does nothing if no meter was installed there or memory runs out.
     pub(crate) fn keep_installation(&mut self, register: &Name, found: &Option<Installation>)
         ensures { (known : List Fact) → found.now ≡ installation_at known register.now
             → AreTrue self.old known → AreTrue self.new known }
@@ -220,7 +224,8 @@ impl Known {
         }
     }
 
-    /// Returns the pending poll with this number, or `None` if the poll is not cached.
+    /// Returns the pending poll (without an outcome) with this number, or `None` if the poll is not
+    /// cached.
     pub(crate) fn poll(&self, number: u64) -> Option<PollRow>
         ensures { (known : List Fact) → AreTrue self.now known
             → IfSome result (λ row. poll_row_of known number ≡ Some row) }
@@ -284,7 +289,7 @@ impl Known {
         self.polls.apply_record(fact);
     }
 
-    /// Updates the cache of lookup results after these records were added to the store.
+    /// Updates the cache of lookup results after the records `facts` were added to the store.
     pub(crate) fn add_all(&mut self, facts: &[Fact])
         ensures { (known : List Fact) → AreLawful (with_facts facts.now known)
             → AreTrue self.old known → AreTrue self.new (with_facts facts.now known) }

@@ -1,4 +1,4 @@
-//! Caches pending polls by their numbers, and the number of started polls.
+//! Caches pending polls (without an outcome) by their numbers, and the number of started polls.
 ghost use Rattle.std.specs.Prelude.{◌≡◌, ℕ, None, Some};
 ghost use Rattle.std.specs.Option.{option_copied};
 ghost use Rattle.memory_books.specs.Kept.Polls.{waiting_at, MayWait, WaitsNoMore, GoesUp, PollsChange};
@@ -8,8 +8,8 @@ use poll_core::MAX_WINDOW;
 use std::alloc::Global;
 use std::collections::BTreeMap;
 
-/// The cached pending polls, and the number of started polls. The number is `None` if it is not
-/// cached.
+/// The cached pending polls (without an outcome), and the number of started polls. The number is
+/// `None` if it is not cached.
 #[derive(Drop)]
 pub(crate) struct Polls {
     waiting: BTreeMap<u64, Poll>,
@@ -28,7 +28,8 @@ impl Polls {
         }
     }
 
-    /// Returns the pending poll with this number, or `None` if the poll is not cached.
+    /// Returns the pending poll (without an outcome) with this number, or `None` if the poll is not
+    /// cached.
     pub(crate) fn get(&self, number: u64) -> Option<&Poll>
         ensures { option_copied result ≡ waiting_at self.now number }
     {
@@ -42,7 +43,7 @@ impl Polls {
         self.started
     }
 
-    /// Caches the number of started polls.
+    /// Caches `count`, the number of polls that the store's records say were started.
     pub(crate) fn keep_started(&mut self, count: u64)
         ensures waiting { self.new.waiting ≡ self.old.waiting }
         ensures started { self.new.started ≡ Some count }
@@ -72,8 +73,8 @@ impl Polls {
         let _ = self.waiting.remove(&number);
     }
 
-    /// Updates the cached pending polls and the cached number of started polls after one more
-    /// record.
+    /// Updates the cached pending polls (without an outcome) and the cached number of started polls
+    /// after one more record.
     pub(crate) fn apply_record(&mut self, fact: &Fact)
         ensures { PollsChange fact.now self.old self.new }
     {

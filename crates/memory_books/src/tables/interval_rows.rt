@@ -1,4 +1,5 @@
-//! Adds up the energy of a meter's entries by quarter hour, and passes the rows to a sink.
+//! Adds up the energy of a meter's entries by quarter hour, and passes the rows to a sink (a
+//! consumer of rows).
 ghost use Rattle.std.specs.Prelude.{◌+◌, ◌^◌, ◌≤◌, ◌<◌, ◌∷◌, []};
 ghost use Rattle.std.specs.Option.{ForSome, option_to_list};
 ghost use Rattle.interval_core.specs.Account.{energy_of};
@@ -27,7 +28,8 @@ fn write_within<K: RowSink<Share>>(span: Span, row: Share, sink: &mut K)
 }
 
 /// Adds a quarter-hour energy to the row of its quarter hour. When the next quarter hour begins,
-/// the finished row is passed to the sink if it is in the time span.
+/// the function passes the finished row to the sink (a consumer of rows) if this row is in the time
+/// span.
 fn pass_share<K: RowSink<Share>>(waits: &mut Option<Share>, share: Share, span: Span, sink: &mut K)
     requires { ForSome waits.old (λ row. row.mwh + share.mwh < 2 ^ 64) }
     ensures passes { Passes (TakesWithin K.takes span) sink.old sink.new waits.old waits.new
@@ -56,9 +58,9 @@ fn pass_step<K: RowSink<Share>>(waits: &mut Option<Share>, step: &Step, span: Sp
     }
 }
 
-/// Passes the quarter-hour rows of a meter's valid entries to the sink, in order. Rows outside the
-/// time span are left out. If the accounting rules refuse one of the entries, the sink may get only
-/// some of the rows.
+/// Passes the quarter-hour rows of a meter's valid entries to the sink (a consumer of rows), in
+/// order. Rows outside the time span are left out. If the accounting rules refuse one of the
+/// entries, the sink may get only some of the rows.
 fn pass_rows<K: RowSink<Share>>(meter: &Installed, rows: &[EntryRow], span: Span, sink: &mut K)
     requires range_low { MIN_RANGE ≤ meter.now.range }
     requires range_high { meter.now.range ≤ MAX_RANGE }
@@ -97,9 +99,9 @@ fn pass_rows<K: RowSink<Share>>(meter: &Installed, rows: &[EntryRow], span: Span
     }
 }
 
-/// Passes the quarter-hour rows of a meter to the sink, in order. Rows outside the time span are
-/// left out. If the accounting rules refuse one of the meter's entries, the sink may get only some
-/// of the rows.
+/// Passes the quarter-hour rows of a meter to the sink (a consumer of rows), in order. Rows outside
+/// the time span are left out. If the accounting rules refuse one of the meter's entries, the sink
+/// may get only some of the rows.
 pub(crate) fn hand_on<K: RowSink<Share>>(
     opening: &Opening,
     rows: &[EntryRow],

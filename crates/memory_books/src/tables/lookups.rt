@@ -1,4 +1,5 @@
-//! Reads the content of the record at an index of the list of records.
+//! Functions that read the content of a record (such as an accounting register (a named energy
+//! counter) or an opening) at an index of the in-memory list of records.
 ghost use Rattle.std.specs.Prelude.{◌≡◌, IfOk};
 ghost use Rattle.std.specs.List.{filter_map};
 ghost use Rattle.std.specs.Option.{option_copied};
@@ -102,8 +103,8 @@ pub(crate) fn registers_read_at(
         .collect(alloc)
 }
 
-/// Returns the point list in a record, or `None` if the record has no point list or the list has no
-/// points.
+/// Returns the point list (the Modbus registers to read) in a record, or `None` if the record has
+/// no point list or the list has no points.
 fn as_list(fact: &Fact) -> Option<&PlannedList>
     ensures { option_copied result ≡ spots.listed fact.now }
 {

@@ -1,4 +1,4 @@
-//! A meter in the table of meters, with its current state and its entry rows.
+//! A meter in the in-memory table of meters, with its current state and its entry rows.
 ghost use Rattle.std.specs.Prelude.{◌≡◌, List, Some, take, IfOk, OnOk, OnErr, IfSome};
 ghost use Rattle.std.specs.Option.{option_map};
 ghost use Rattle.meter_journal.specs.Journal.{row_at};
@@ -141,7 +141,8 @@ impl Meter {
         list_entries(alloc, &self.row.opening, &self.rows, from, most)
     }
 
-    /// Passes the energy of the meter to the sink, one row for each quarter hour in the time span.
+    /// Passes the energy of the meter to the sink (a consumer of rows), one row for each quarter
+    /// hour in the time span.
     pub(crate) fn hand_on<K: RowSink<Share>>(&self, span: Span, sink: &mut K)
         ensures whole { WhereSaid self.now (λ known opening.
             TakesAll (TakesWithin K.takes span) sink.old (rows_of_opening known opening) sink.new) }

@@ -35,7 +35,7 @@ pub(crate) struct Meters {
 impl Meters {
     ghost use Rattle.memory_books.specs.Tables.Meters.{AreMeters, Changes, Begins, IfThere};
 
-    /// Creates an empty table of meters.
+    /// Creates an empty in-memory table of meters.
     pub(crate) fn new(alloc: Global) -> Meters
         ensures { AreMeters result [] }
     {
@@ -148,7 +148,8 @@ impl Meters {
         }
     }
 
-    /// Passes the energy of a meter to the sink, one row for each quarter hour in the time span.
+    /// Passes the energy of a meter to the sink (a consumer of rows), one row for each quarter hour
+    /// in the time span.
     pub(crate) fn hand_on<K: RowSink<Share>>(&self, name: &Name, span: Span, sink: &mut K)
         ensures whole { (known : List Fact) → AreLawful known → AreMeters self.now known
             → TakesAll (TakesWithin K.takes span) sink.old (rows_of_meter known name.now) sink.new }

@@ -10,24 +10,26 @@ use office_events::{DeviceList, Fact, Name, Opening, Register, Reply};
 use std::alloc::{AllocError, Global};
 use std::collections::BTreeMap;
 
-/// The kind of a table of record indices. The kind determines which records the table indexes, and
-/// by which key.
+/// The kind of an in-memory table of record indices. The kind determines which records the table
+/// indexes, and by which key.
 #[derive(Clone, Copy)]
 pub(crate) enum Kind {
-    /// The table has point lists (the Modbus registers to read), by the name of their device.
+    /// A map in memory that finds point lists (the Modbus registers to read) by the name of their
+    /// device.
     DeviceLists,
-    /// The table has accounting registers (named energy counters), by their own name.
+    /// The lookup table finds accounting registers (named energy counters) by their own names.
     Registers,
-    /// The table has accounting registers (named energy counters), by the name of their device.
+    /// A kind of lookup table of a store in memory: it finds accounting registers (named energy
+    /// counters) by the name of their device.
     DeviceRegisters,
-    /// The table has openings (installations of meters), by the name of their accounting register
-    /// (a named energy counter).
+    /// The lookup table finds openings (installations of meters) by the name of their accounting
+    /// register (a named energy counter).
     RegisterOpenings,
-    /// The table has stored responses to requests, by idempotency key.
+    /// A map in memory that finds stored responses to requests by idempotency key.
     Replies,
 }
 
-/// Returns the key of a lookup by name only.
+/// Returns the key for a lookup by a name alone. It has the name, and 0 in place of a number.
 pub(crate) fn named(name: &Name) -> Key
     ensures { result ≡ keys.named name.now }
 {
@@ -96,7 +98,8 @@ fn key_in(kind: Kind, fact: &Fact) -> Option<Key>
     }
 }
 
-/// A table in which a search by key finds the indices of the records of one kind.
+/// An in-memory table in which a search by key (such as a name) finds the indices of the records of
+/// one kind in the store's list of records.
 #[derive(Drop)]
 pub(crate) struct Places {
     alloc: Global,
@@ -108,7 +111,8 @@ impl Places {
     ghost use Rattle.memory_books.specs.Tables.Places.{ArePlaces, ArePlacesOf, AreUnchanged, HaveOneMore, places_of, latest_place, has_key};
     ghost use Rattle.memory_books.specs.declared.tables.places.Kind.{Kind};
 
-    /// Creates an empty table of record indices of this kind.
+    /// Creates an empty table of record indices. `kind` determines which records the table indexes,
+    /// and by which key.
     pub(crate) fn new(alloc: Global, kind: Kind) -> Places
         ensures places { ArePlaces result [] }
         ensures kind { result.kind ≡ kind }
@@ -135,7 +139,8 @@ impl Places {
         Ok(())
     }
 
-    /// Returns the indices of the records with this key, in the order in which they were added.
+    /// Returns the indices of the records with the lookup key `key` (a name, or a name and a
+    /// number), in the order in which the records were added.
     pub(crate) fn all(&self, key: Key) -> &[usize]
         ensures { (kind : Kind) (known : List Fact) → ArePlacesOf kind self.now known
             → result.now ≡ reverse (places_of (has_key kind key) known) }

@@ -18,7 +18,7 @@ pub(crate) struct Polls {
 impl Polls {
     ghost use Rattle.memory_books.specs.Tables.Polls.{ArePolls, EndsPoll};
 
-    /// Creates an empty table of polls.
+    /// Creates an empty in-memory table of polls.
     pub fn new(alloc: Global) -> Polls
         ensures { ArePolls result [] }
     {
@@ -52,7 +52,7 @@ impl Polls {
         }
     }
 
-    /// Returns the number of polls in the table.
+    /// Returns the number of polls in the in-memory table.
     pub fn count(&self) -> u64
         ensures { (known : List Fact) → ArePolls self.now known → result ≡ length (polls_in known) }
     {
@@ -90,7 +90,7 @@ impl Table for Polls {
     }
 }
 
-/// The table of the polls that have no outcome yet.
+/// The in-memory table of the polls that have no outcome yet.
 #[derive(Drop)]
 pub(crate) struct Pending {
     polls: Vec<Poll>,
@@ -99,7 +99,7 @@ pub(crate) struct Pending {
 impl Pending {
     ghost use Rattle.memory_books.specs.Tables.Polls.{ArePending, polls_but};
 
-    /// Creates an empty table of pending polls.
+    /// Creates an empty table of pending polls (without an outcome).
     pub fn new(alloc: Global) -> Pending
         ensures { ArePending result [] }
     {
@@ -114,7 +114,7 @@ impl Pending {
         self.polls.retain(|poll| number != poll.number);
     }
 
-    /// Returns the pending polls, in the order in which they were started.
+    /// Returns the pending polls (without an outcome), in the order in which they were started.
     pub fn all(&self, alloc: Global) -> Result<Vec<Poll>, AllocError>
         ensures { (known : List Fact) → ArePending self.now known
             → IfOk result (λ v. v.items ≡ pending_in known) }

@@ -8,7 +8,8 @@ ghost use Rattle.memory_books.specs.Tables.Growing.{HasCome, latest_first};
 use office_events::Fact;
 use std::alloc::AllocError;
 
-/// A table for lookups of records, which is updated record by record.
+/// A structure in memory that finds records of the store by key, such as a device's name. Records
+/// are added to it one by one, in the store's order. A lookup first adds those that it lacks.
 pub(crate) trait Table: Drop {
     ghost use Rattle.std.specs.Prelude.{◌≡◌, List, ◌∷◌, length, Option, OnOk, OnErr};
     ghost use Rattle.office_events.specs.declared.facts.Fact.{Fact};
@@ -18,11 +19,12 @@ pub(crate) trait Table: Drop {
     /// The kind of a table of record indices, which never changes, or `None` for any other table.
     ghost kind: { Self → Option Kind };
 
-    /// The condition that a table agrees with a list of records, the latest record first.
+    /// The condition that a lookup table in memory has the content that follows from a list of the
+    /// store's records, the latest record first.
     ghost says: { Self → List Fact → Type 0 };
 
-    /// Adds the next record to the table, or leaves the table unchanged if memory runs out. `place`
-    /// is the record's index in the store's list, counted from 0.
+    /// Adds the next record of the store's list to this lookup table, or leaves the table unchanged
+    /// if memory runs out. `place` is the record's index in the list, counted from 0.
     fn apply_record(&mut self, place: usize, fact: &Fact) -> Result<(), AllocError>
         ensures ok { (known : List Fact) → AreLawful (fact.now ∷ known) → length known ≡ place
             → says self.old known
@@ -32,7 +34,8 @@ pub(crate) trait Table: Drop {
         ensures kind { kind self.new ≡ kind self.old };
 }
 
-/// A lookup table, with the number of records that were added to it.
+/// A lookup table of a store in memory (a table that finds records by a key), with the number of
+/// records that were added to it.
 #[derive(Drop)]
 pub(crate) struct Kept<T> {
     pub table: T,
@@ -48,8 +51,8 @@ impl<T: Table> Kept<T> {
         Kept { table, count: 0 }
     }
 
-    /// Adds all missing records of the store's list to the lookup table. If memory runs out, some
-    /// records may remain missing.
+    /// Adds to the lookup table (an in-memory index of the records) all records of the store's list
+    /// that it lacks. If memory runs out, it may still lack some.
     pub fn catch_up(&mut self, facts: &[Fact]) -> Result<(), AllocError>
         ensures kept { AreLawful (latest_first facts.now) → HasCome T.says self.old facts.now
             → HasCome T.says self.new facts.now }

@@ -1,4 +1,5 @@
-//! All lookup tables of a store in memory.
+//! All lookup tables of a store in memory, such as the table of polls by number and the table of
+//! meters by name.
 ghost use Rattle.std.specs.Prelude.{◌≡◌, ◌∷◌, List, [], map, reverse, length, IfOk, IfSome, OnOk};
 ghost use Rattle.std.specs.List.{filter, filter_map};
 ghost use Rattle.std.specs.Option.{option_copied, option_map};
@@ -34,8 +35,9 @@ use office_events::{
 };
 use std::alloc::{AllocError, Global};
 
-/// All lookup tables of a store in memory. Each table agrees with the records for which it was
-/// already updated. A lookup requires that all tables were updated for all records.
+/// All lookup tables of a store in memory. Each table has the content that follows from the records
+/// for which it was already updated. A lookup requires that all tables were updated for all
+/// records.
 #[derive(Drop)]
 pub struct Tables {
     polls: Kept<Polls>,
@@ -67,8 +69,8 @@ impl Tables {
         }
     }
 
-    /// Adds all missing records to all lookup tables. If memory runs out, some records may still be
-    /// missing in a table.
+    /// Adds to each lookup table in memory the store's records that the table lacks. If memory runs
+    /// out, some tables may still lack records.
     pub fn catch_up(&mut self, facts: &[Fact]) -> Result<(), AllocError>
         ensures kept { AreLawful (latest_first facts.now) → HaveCome self.old facts.now
             → HaveCome self.new facts.now }
@@ -101,7 +103,7 @@ impl Tables {
         self.polls.table.count()
     }
 
-    /// Returns the pending polls, in the order in which they were started.
+    /// Returns the pending polls (without an outcome), in the order in which they were started.
     pub fn pending(&self, alloc: Global) -> Result<Vec<Poll>, AllocError>
         ensures { (known : List Fact) → AreWhole self.now known
             → IfOk result (λ v. v.items ≡ pending_in known) }
@@ -216,8 +218,8 @@ impl Tables {
         self.device_registers.table.all(named(device)).len()
     }
 
-    /// Returns the latest opening (the installation of a meter) at an accounting register, or
-    /// `None` if no meter was installed there.
+    /// Returns the latest opening (the installation of a meter) at an accounting register (a named
+    /// energy counter), or `None` if no meter was installed there.
     pub fn installed(&self, facts: &[Fact], register: &Name) -> Option<Opening>
         ensures { (known : List Fact) → facts.now ≡ reverse known → AreWhole self.now known
             → result ≡ installed_at known register.now }
@@ -260,8 +262,8 @@ impl Tables {
         self.meters.table.row(name)
     }
 
-    /// Returns the state of the meter that was installed last at an accounting register, open or
-    /// closed. Returns `None` if no meter was installed there.
+    /// Returns the state of the meter that was installed last at an accounting register (a named
+    /// energy counter), open or closed. Returns `None` if no meter was installed there.
     pub fn installation(&self, facts: &[Fact], register: &Name) -> Option<Installation>
         ensures found { WhereWhole self.now facts.now (λ known.
             result ≡ installation_at known register.now) }
@@ -349,8 +351,8 @@ impl Tables {
         self.installations_there(alloc, facts, self.openings.table.all(named(register)))
     }
 
-    /// Passes the energy of a meter to the sink, one row for each quarter hour in the time span, in
-    /// order of time, without allocating memory.
+    /// Passes the energy of a meter to the sink (a consumer of rows), one row for each quarter hour
+    /// in the time span, in order of time, without allocating memory.
     pub fn intervals<K: RowSink<Share>>(&self, meter: &Name, span: Span, sink: &mut K)
         ensures whole { (known : List Fact) → AreLawful known → AreWhole self.now known
             → TakesAll (TakesWithin K.takes span) sink.old (rows_of_meter known meter.now)
@@ -389,8 +391,8 @@ impl Tables {
         }
     }
 
-    /// Passes the energy of an accounting register to the sink, one row for each meter and quarter
-    /// hour in the time span, without allocating memory.
+    /// Passes the energy of an accounting register to the sink (a consumer of rows), one row for
+    /// each meter and quarter hour in the time span, without allocating memory.
     pub fn register_intervals<K: RowSink<Share>>(
         &self,
         facts: &[Fact],

@@ -1,5 +1,5 @@
--- Lemmas: if the rules accept a meter's list of entry rows, then the valid (not voided) rows alone
--- form a history that the rules accept.
+-- Lemmas: if the rules for meter entries accept a meter's list of entry rows, then the valid (not
+-- voided) rows alone form a history that the rules accept.
 use Rattle.std.proofs.Common.{◌≡◌, Bool, true, false, List, [], ◌∷◌, map, refl, sym, ap, subst, ◌∙◌, inl, inr}
 use Rattle.std.proofs.lemmas.Bool.{cases_Bool, cond-true, cond-false}
 use Rattle.energy_core.specs.declared.entries.Last.{Last}
@@ -33,8 +33,8 @@ alone_unended (row ∷ rows) h =
       | inr off ↦ ap (λ rs. journal_ended (entering rs)) (stands_on row rows false off) ∙ alone_unended rows parts.1
     ]
 
--- If each line of a meter's journal records the entry of one row of a list, then its valid entries
--- are exactly these entries.
+-- If each line of a meter's journal records the entry of one row of a list, then the journal's
+-- valid (not voided) entries are exactly the entries of these rows.
 entries_alone : (opening : Last) (rows : List EntryRow) → entries_of opening (entering rows) ≡ map (λ row. row.entry) rows
 entries_alone opening [] = refl
 entries_alone opening (row ∷ rows) = ap (λ (es : List Entry). row.entry ∷ es) (entries_alone opening rows)
@@ -62,8 +62,9 @@ pub matching_rows_are_independent : FittingRowsStandAlone
 matching_rows_are_independent meter rows h =
     record { fit = alone_fits meter rows h; entries = entries_alone meter.opening (standing rows) }
 
--- If the rules accept a list of a meter's rows, they accept each valid entry after the valid
--- entries before it. The total energy of these entries is then within its limit.
+-- If the rules for meter entries accept a list of entry rows, they accept each valid (not voided)
+-- entry after the valid entries before it. The total energy of these entries is then within its
+-- limit.
 pub fitting_account : (meter : Installed) (rows : List EntryRow) → IsWellInstalled meter → AllFit meter rows → HasAccount meter (entries_in rows)
 fitting_account meter rows well h =
     let alone = matching_rows_are_independent meter rows h in

@@ -1,5 +1,5 @@
--- Lemmas: if the rules accept entry rows of a meter, then these rows can be read back from their
--- rows in the database table.
+-- Lemmas: if the rules for meter entries accept entry rows of a meter, then these rows can be read
+-- back from their rows in the database table.
 use Rattle.std.proofs.Common.{◌≡◌, ℕ, ◌+◌, ◌<◌, Bool, true, false, not, List, [], ◌∷◌, ◌++◌, reverse, take, drop, length, get_or, Option, Some, None, Result, Ok, Err, IsOk, refl, sym, ap, subst, ◌∙◌}
 use Rattle.std.proofs.lemmas.Option.{slice_get-get_or}
 use Rattle.std.proofs.lemmas.List.{reverse-append, take_more, take-append-drop}
@@ -80,8 +80,8 @@ rows_are_distinct meter (row ∷ rows) (row' ∷ rows') fit fit' h =
     let first : row ≡ row' = sym (is_back meter rows row fit.0) ∙ ap decoded head ∙ is_back meter rows' row' fit'.0 in
     ap (λ (r : EntryRow). r ∷ rows) first ∙ ap (λ (rs : List EntryRow). row' ∷ rs) rest
 
--- If the check refuses a table row, then the row does not encode an entry row that the rules
--- accept.
+-- If the check of a meter's tables refuses a table row, then the row does not encode an entry row
+-- that the rules for meter entries accept.
 
 refused_next : (meter : Installed) (rows : List EntryRow) (reported : TableRow) (f : RowFault) (later : List EntryRow) → IsWellInstalled meter
     → AllFit meter rows → passed meter (check_after meter rows) reported ≡ Err f → AllFit meter later
@@ -99,8 +99,9 @@ refused_next meter rows reported f (row ∷ rows') well fit why all h =
     let ok : (let r : Result (Check × Option Step) RowFault = Err f in IsOk r) = subst IsOk same passes in
     absurd (cc)
 
--- If a list of table rows contains a refused row, the list encodes no entry rows that the rules
--- accept. Rows that follow the refused row change nothing.
+-- If a list of table rows contains a row that the check of a meter's tables refuses, the list
+-- encodes no entry rows that the rules for meter entries accept. Rows that follow the refused row
+-- change nothing.
 pub refused_below : (meter : Installed) (rows : List EntryRow) (reported : TableRow) (f : RowFault) (newer : List TableRow) (all : List EntryRow)
     → IsWellInstalled meter → AllFit meter rows → passed meter (check_after meter rows) reported ≡ Err f → AllFit meter all
     → newer ++ reported ∷ later_rows meter rows ≡ later_rows meter all → ⊥
@@ -111,7 +112,7 @@ refused_below meter rows reported f (x ∷ newer) (row ∷ rows') well fit why f
     (same_tail x (reported_after meter rows' row) (newer ++ reported ∷ later_rows meter rows) (later_rows meter rows') h)
 
 -- Suppose that the check of a meter's tables passes some table rows and refuses the next row. Then
--- all table rows together encode no entry rows that the rules accept.
+-- all table rows together encode no entry rows that the rules for meter entries accept.
 pub none_reported : (meter : Installed) (reported : List TableRow) (i : ℕ) (d : TableRow) (rows : List EntryRow) (f : RowFault) → IsWellInstalled meter
     → i < length reported → AllFit meter rows → reverse (take i reported) ≡ later_rows meter rows
     → passed meter (check_after meter rows) (get_or reported i d) ≡ Err f → AreReported meter (reverse reported) → ⊥

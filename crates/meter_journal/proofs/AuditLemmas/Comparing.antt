@@ -1,5 +1,6 @@
--- Lemmas that compare two lists of interval rows (energies of quarter hours): those computed from a
--- meter's entries, and those in the database.
+-- Lemmas: the comparison of two lists of interval rows (energies of quarter hours) finds their
+-- first difference, or that they are equal. One list is computed from a meter's entries, and the
+-- other is stored in the database.
 use Rattle.std.proofs.Common.{◌≡◌, ℕ, zero, suc, ◌<◌, ◌≤◌, ◌==◌, nat_lt, Bool, true, false, if◌then◌else◌, List, [], ◌∷◌, ◌++◌, length, get_or, take, drop, Option, Some, None, refl, sym, ap, subst, ◌∙◌, arith, eq-eqb}
 use Rattle.std.proofs.Math.Seq.{drop-cons}
 use Rattle.std.proofs.Math.ListN.{drop_of_length-le}
@@ -11,8 +12,8 @@ use Rattle.meter_journal.specs.declared.audit.intervals.IntervalFault.{IntervalF
 use Rattle.meter_journal.specs.declared.audit.intervals.IntervalFault.TheVariants as fault
 use Rattle.meter_journal.specs.Audit.Comparing.{fault_between, next_fault, difference_after, IsFirst}
 
--- If two lists of interval rows are equal before an index and differ at this index, then their
--- first difference is at this index.
+-- If two lists of interval rows (energies by quarter hour) are equal before an index and differ at
+-- this index, then their first difference is at this index.
 first_at : (wanted found wanted_left found_left : List Share) (i : ℕ) (f : IntervalFault)
     → take i wanted ≡ take i found → i ≤ length wanted → drop i wanted ≡ wanted_left → drop i found ≡ found_left
     → next_fault wanted_left found_left ≡ Some f → IsFirst wanted found (difference_after i f)
@@ -88,7 +89,8 @@ own_default [] i d e less = absurd (omega (arith, less))
 own_default (row ∷ rows) zero d e less = refl
 own_default (row ∷ rows) (suc i) d e less = own_default rows i d e (omega (arith, less))
 
--- If two lists of interval rows have different rows at one index, then the lists are not equal.
+-- If two lists of interval rows (energies by quarter hour) have different rows at one index, then
+-- the lists are not equal.
 pub differ_at : (wanted found : List Share) (i : ℕ) (d e : Share) (f : IntervalFault) → i < length wanted
     → fault_between (get_or wanted i d) (get_or found i e) ≡ Some f → found ≡ wanted → ⊥
 differ_at wanted found i d e f lt h is =

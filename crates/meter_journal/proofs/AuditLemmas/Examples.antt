@@ -88,8 +88,8 @@ fine_tables = record {
   are = refl;
 }
 
--- Examples of a first reading that is voided (cancelled), and of the reading after it. This is the
--- table row of the voided reading.
+-- Examples of a first reading that is voided (cancelled), and of the reading after it.
+-- `voided_first` is the table row of the voided reading.
 abbrev voided_first : TableRow
 voided_first = reported 2 row_kind.Reading 1900 5200 0 0 (pos 0) true
 
@@ -97,8 +97,8 @@ after_voided : passed house (begun house) voided_first ≡ Ok (check_as 2 (last 
 unfolding unit_of
 after_voided = refl
 
--- The check applies the rules of a valid reading to a voided (cancelled) reading only if the row
--- before the reading is valid.
+-- The check of a meter's table rows applies the rules of a valid reading to a voided (cancelled)
+-- reading only if the row before the reading is valid.
 voided_too_fast : passed house (begun house) (reported 2 row_kind.Reading 1900 50000 0 0 (pos 0) true) ≡ Err (fault.Held cause.TooFast)
 unfolding unit_of
 voided_too_fast = refl
@@ -107,7 +107,8 @@ voided_after_a_voided : passed house (check_as 2 (last 1000 5000 (pos 0)) 0 fals
     ≡ Ok (check_as 3 (last 1000 5000 (pos 0)) 0 false false, None)
 voided_after_a_voided = refl
 
--- A closing (the last entry of a meter) passes the check, and no row may follow it.
+-- A closing (the last entry of a meter) passes the check of a meter's table rows, and no row may
+-- follow it.
 closed : passed house (begun house) (reported 2 row_kind.Closing 1900 5200 0 0 (pos 0) false)
     ≡ Ok (check 2 (last 1900 5200 (pos 0)) 200000 true, Some (record { from = 1000; till = 1900; mwh = 200000 }))
 unfolding unit_of

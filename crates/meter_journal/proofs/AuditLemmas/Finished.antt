@@ -1,4 +1,5 @@
--- Lemmas that compare the tables of a meter with the state of the check after all rows passed it.
+-- Lemmas about a meter whose entry rows all passed the check of its tables: the tables are
+-- consistent if and only if their other values agree with the state of the check.
 use Rattle.std.proofs.Common.{◌≡◌, ℕ, Bool, List, [], ◌∷◌, ◌++◌, Err, refl, sym, ap, subst, ◌∙◌}
 use Rattle.energy_core.specs.declared.entries.Last.{Last}
 use Rattle.interval_core.specs.declared.shares.Share.{Share}

@@ -1,5 +1,5 @@
--- Lemmas on the state of a meter's check after one more table row, and on the interval rows that
--- are still to be compared.
+-- Lemmas: the invariant of the check of a meter's tables still holds after the check passes one
+-- more table row, or removes interval rows that it has compared.
 use Rattle.std.proofs.Common.{◌≡◌, ℕ, zero, suc, take, drop, length, ◌+◌, ◌≤◌, ◌==◌, true, false, if◌then◌else◌, List, [], ◌∷◌, ◌++◌, Option, Some, None, Result, Ok, refl, sym, ap, subst, ◌∙◌, inl, inr, arith, append_assoc, append-nil, length-drop}
 use Rattle.std.proofs.lemmas.Bool.{cases_Bool, cond-true, cond-false}
 use Rattle.std.proofs.lemmas.List.{take-append-drop}
@@ -135,7 +135,7 @@ less_left (suc n) (row ∷ rows) =
     omega (arith, whole, left, less_left n rows)
 
 -- If rows are removed from the front of the pending interval rows (those still to be compared), the
--- invariant of the check still holds.
+-- invariant of the check of a meter's tables still holds.
 pub left_is_sound : (n : ℕ) (meter : Installed) (old new : Progress) → new.check ≡ old.check → new.wanted.items ≡ drop n old.wanted.items
     → IsSoundProgress meter old → IsSoundProgress meter new
 left_is_sound n meter old new same left sound = record {
@@ -154,8 +154,8 @@ none_left (row ∷ rows) h =
       ap (λ (rs : List Share). length rs) h,
     ))
 
--- The function `drop_done` moves interval rows from the pending rows (still to be compared) to the
--- compared rows. It moves the rows that no later entry can change.
+-- The function `drop_done` moves interval rows (energies by quarter hour) from the pending rows
+-- (still to be compared) to the compared rows. It moves the rows that no later entry can change.
 pub drops_done : (old new : Progress) → new.check ≡ old.check
     → new.wanted.items ≡ drop (settled_in old.wanted.items) old.wanted.items → DropsDone old new
 drops_done old new same left meter reported done gone =

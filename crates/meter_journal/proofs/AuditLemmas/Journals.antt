@@ -1,5 +1,5 @@
--- Lemmas: if the rules accept each line of a meter's history, then they accept each of its rows
--- after the rows before it.
+-- Lemmas: if the rules for meter entries accept each line of a meter's history, then they accept
+-- each of its rows after the rows before it.
 use Rattle.std.proofs.Common.{◌≡◌, ℕ, ◌<◌, ◌≤◌, ◌==◌, Bool, true, false, nat_lt, if◌then◌else◌, List, [], ◌∷◌, Option, Some, None, refl, sym, ap, subst, ◌∙◌, inl, inr, arith}
 use Rattle.std.specs.Option.{option_or}
 use Rattle.std.proofs.lemmas.Bool.{cases_Bool, cond-true, cond-false}
@@ -53,8 +53,8 @@ all_unended meter whole (Entered k e ∷ lines) (row ∷ rows) fit h =
 all_unended meter whole (Held reading cause ∷ lines) rows fit h = all_unended meter whole lines rows fit.1 h
 all_unended meter whole (Voided place ∷ lines) rows fit h = all_unended meter whole lines rows fit.1 h
 
--- States that each voided (cancelled) row of the list is acceptable as a voided row after the valid
--- rows before it.
+-- States that the rules for meter entries accept each voided (cancelled) row of the list as a
+-- voided row after the valid rows before it.
 abbrev AllVoidedFit : Installed → List EntryRow → Type 0
 AllVoidedFit meter [] = Unit {0}
 AllVoidedFit meter (row ∷ rows) =
@@ -65,8 +65,8 @@ one_at_most : (b : Bool) (n : ℕ) → n ≡ (if b then 1 else 0) → n ≤ 1
 one_at_most true n h = omega (arith, h)
 one_at_most false n h = omega (arith, h)
 
--- If the rules accepted a reading, then it showed a count that the counter can show, and is later
--- than the last entry before it.
+-- If the rules for meter entries accepted a reading, then it showed a nonzero count that the
+-- counter can show, and is later than the last entry before it.
 was_accepted : (meter : Installed) (es : List Entry) (at raw rolls : ℕ) → IsAcceptedAs meter es at raw rolls
     → WasReading meter.range (last_after meter es) at raw rolls
 was_accepted meter es at raw rolls h =
@@ -79,16 +79,16 @@ was_accepted meter es at raw rolls h =
       once = one_at_most (nat_lt raw l.raw) rolls (rolls_of meter es at raw rolls h);
     }
 
--- If the rules accept a reading as a valid row, then the reading is also acceptable as a voided
--- (cancelled) row.
+-- If the rules for meter entries accept a reading as a valid row, then the reading is also
+-- acceptable as a voided (cancelled) row.
 voided_now : (meter : Installed) (es : List Entry) (k : EntryKind) (e : Entry) → is_read k e ≡ true → EntryFits meter es k e
     → VoidedFits meter.range (last_after meter es) k e
 voided_now meter es =
     by_read (λ k e. EntryFits meter es k e → VoidedFits meter.range (last_after meter es) k e)
     (λ at raw rolls h. was_accepted meter es at raw rolls h)
 
--- If a voided (cancelled) row is acceptable after an entry, then it is also acceptable after an
--- earlier entry.
+-- If the rules for meter entries accept a voided (cancelled) row after a counter state, then they
+-- also accept it after a state with an earlier time.
 voided_earlier : (range : ℕ) (l l' : Last) (k : EntryKind) (e : Entry) → l'.at ≤ l.at → VoidedFits range l k e → VoidedFits range l' k e
 voided_earlier range l l' kind.Reading (entry.Step at raw rolls) le h =
     record { accumulated = h.accumulated; below = h.below; later = omega (arith, h.later, le); once = h.once }
@@ -126,13 +126,14 @@ stands_rolled kind.Reset last place e false = refl
 stands_rolled kind.Rescale last place e true = refl
 stands_rolled kind.Rescale last place e false = refl
 
--- After a valid row, the time of the last valid entry is the time of the row's entry.
+-- After a valid (not voided) row, the time of the last valid entry is the time of the row's entry.
 moment_after : (meter : Installed) (row : EntryRow) (rows : List EntryRow) → row.stands ≡ true
     → (last_after meter (entries_in (row ∷ rows))).at ≡ moment_of row.entry
 moment_after meter row rows on =
     ap (λ (es : List Entry). (last_after meter es).at) (entries_standing row rows on) ∙ last_moment meter row.entry (entries_in rows)
 
--- Removing the latest row never makes the time of the last valid entry later.
+-- If the latest row is removed from a list of a meter's entries, the time of the last valid (not
+-- voided) entry does not become later.
 last_without : (meter : Installed) (row : EntryRow) (rows : List EntryRow) → AllFollow meter.range meter.opening (entries_in (row ∷ rows))
     → (last_after meter (entries_in rows)).at ≤ (last_after meter (entries_in (row ∷ rows))).at
 last_without meter row rows h =
@@ -177,8 +178,8 @@ goes_back meter place (row ∷ rows) h =
           ]
     ]
 
--- If an entry is voided (cancelled), then all voided rows of the meter are still acceptable as
--- voided rows.
+-- If an entry is voided (cancelled), then the rules for meter entries still accept all voided rows
+-- of the meter as voided rows.
 
 follows_below : (meter : Installed) (row : EntryRow) (rows : List EntryRow) → AllFollow meter.range meter.opening (entries_in (row ∷ rows))
     → AllFollow meter.range meter.opening (entries_in rows)
@@ -244,8 +245,8 @@ voided_is_read range l kind.Closing e h = absurd h
 voided_is_read range l kind.Reset e h = absurd h
 voided_is_read range l kind.Rescale e h = absurd h
 
--- If the rules accept a reading after some entries, they also accept it after entries with the same
--- last entry and at most that energy.
+-- If the rules for meter entries accept a reading after some entries, they also accept it after
+-- other entries with the same last entry and at most the same energy.
 accepted_lower : (meter : Installed) (es es' : List Entry) (at raw rolls : ℕ) → Lower meter es es' → IsAcceptedAs meter es at raw rolls
     → IsAcceptedAs meter es' at raw rolls
 accepted_lower meter es es' at raw rolls low h =
@@ -269,8 +270,8 @@ lower_with_next : (meter : Installed) (place : ℕ) (rows : List EntryRow) (a : 
 lower_with_next meter place rows a None next is h = absurd (cc)
 lower_with_next meter place rows a (Some n) next is h = h
 
--- If the last row is still valid after another row is voided (cancelled), then it was valid before.
--- The energy of the valid entries has not grown.
+-- If the last row is still valid after another row is voided (cancelled), then the last row was
+-- valid before the void. The void does not increase the energy of the valid entries.
 last_still : (meter : Installed) (place : ℕ) (rows : List EntryRow) (a : Around) → row_at place rows ≡ Some a
     → Leaves meter place rows a a.next → last_stands (with_void meter.opening place rows) ≡ true
     → (last_stands rows ≡ true) × Lower meter (entries_in rows) (entries_in (with_void meter.opening place rows))

@@ -1,4 +1,5 @@
--- Lemmas: consistent tables of a meter are the tables of a history that the rules accept.
+-- Lemmas: consistent tables of a meter (those of a list of entry rows that the rules for meter
+-- entries accept) are the tables of a history that the rules accept.
 use Rattle.std.proofs.Common.{◌≡◌, ℕ, Bool, true, false, if◌then◌else◌, List, [], ◌∷◌, refl, sym, ap, ◌∙◌, inl, inr}
 use Rattle.std.proofs.lemmas.Bool.{cases_Bool, cond-false}
 use Rattle.energy_core.specs.declared.entries.Entry.{Entry}

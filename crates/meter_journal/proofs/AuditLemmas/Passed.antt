@@ -1,5 +1,5 @@
 -- Lemmas: if a table row passes the check of a meter's tables, then it encodes an entry row that
--- the rules accept.
+-- the rules for meter entries accept.
 use Rattle.std.proofs.Common.{◌≡◌, ◌≢◌, ℕ, ℤ, ◌+◌, ◌<◌, ◌≤◌, ◌==◌, nat_lt, nat_le, Bool, true, false, not, ◌&&◌, if◌then◌else◌, List, ◌∷◌, length, Option, Some, None, Result, Ok, Err, refl, sym, ap, subst, ◌∙◌, inl, inr, arith}
 use Rattle.std.specs.Ordering.{int_eq}
 use Rattle.std.proofs.lemmas.Bool.{cases_Bool, cond-true, cond-false, eqb-true}
@@ -137,8 +137,8 @@ reported_by kind.Rescale reported sf hk used hs = same_reported reported.place r
 same_scale : (a b : ℤ) → not (int_eq a b) ≡ false → a ≡ b
 same_scale a b h = (Decides-int_eq a b).0 (grind arith)
 
--- If a table row passes the check, its scale factor column is the counter's scale factor after the
--- row's entry.
+-- If a table row passes the check of a meter's tables, its scale factor column is the counter's
+-- scale factor after the row's entry.
 scale_following : (k : EntryKind) (reported : TableRow) (check : Check) → is_off_scale check k reported ≡ false
     → reported.sf ≡ (after check.last (entry_in k reported)).sf
 scale_following kind.Reading reported check h = same_scale reported.sf check.last.sf h
@@ -190,8 +190,9 @@ accepted_by rolls (verdict.Accepted wanted step) h =
       | inr other ↦ absurd (let f : Some _ ≡ None = sym (cond-false _ _ _ other) ∙ h in cc)
     ]
 
--- States that the rules accepted the entry of a table row. `next` is the state of the check after
--- the entry, and `step` is the step (the energy) from the last valid entry to it.
+-- States that the rules for meter entries accepted the entry of a table row. `next` is the state of
+-- the check of the meter's tables after the entry. `step` is the step (the energy) from the last
+-- valid (not voided) entry to it.
 record IsAfter (check : Check) (k : EntryKind) (reported : TableRow) (answer : Result (Last × Step) TermFault) (next : Check) (step : Option Step) : Type 0 where
   last : Last
   gone : Step
@@ -221,7 +222,7 @@ booked_after check k reported (Ok (last, gone)) next step h =
     }
 
 -- If a table row is not voided (cancelled) and has no fault, then it encodes an entry that the
--- rules accept.
+-- rules for meter entries accept.
 stood_fits : (meter : Installed) (rows : List EntryRow) (reported : TableRow) (k : EntryKind) (next : Last) (step : Step)
     → let check = check_after meter rows in
     is_off_scale check k reported ≡ false → reading_fault meter check k reported ≡ None
@@ -235,8 +236,8 @@ stood_fits meter rows reported kind.Reset next step scale none booked =
     (record { next = next; step = step; entered = booked }, same_scale reported.sf (last_after meter (entries_in rows)).sf scale)
 stood_fits meter rows reported kind.Rescale next step scale none booked = record { next = next; step = step; entered = booked }
 
--- If the check finds no fault in a reading, the rules would accept the reading after the rows
--- before it.
+-- If the check of a meter's tables finds no fault in a reading, the rules for meter entries would
+-- accept the reading after the rows before it.
 was_accepted : (meter : Installed) (rows : List EntryRow) (reported : TableRow) (k : EntryKind) → is_reading k ≡ true
     → reading_fault meter (check_after meter rows) k reported ≡ None → EntryFits meter (entries_in rows) k (entry_in k reported)
 was_accepted meter rows reported kind.Reading is none =

@@ -1,5 +1,5 @@
--- Lemmas: if the rules accept an entry row, then the table row that encodes it passes the check of
--- a meter's tables.
+-- Lemmas: if the rules for meter entries accept an entry row, then the table row that encodes it
+-- passes the check of a meter's tables.
 use Rattle.std.proofs.Common.{◌≡◌, ◌≢◌, ℕ, ℤ, ◌+◌, ◌<◌, ◌≤◌, ◌==◌, nat_lt, nat_le, Bool, true, false, not, ◌&&◌, List, ◌∷◌, length, Option, Some, None, Result, Ok, IsOk, refl, sym, ap, subst, ◌∙◌, inl, inr, arith, eq-eqb}
 use Rattle.std.specs.Ordering.{int_eq}
 use Rattle.std.proofs.lemmas.Bool.{cases_Bool, cond-true, cond-false}
@@ -85,8 +85,8 @@ no_voided_fault meter check reported h =
 no_reading_fault : (rolls step : ℕ) → fault_by rolls (verdict.Accepted rolls step) ≡ None
 no_reading_fault rolls step = cond-true _ _ _ (eq-eqb rolls rolls refl)
 
--- If the rules for valid readings accept a voided (cancelled) reading directly after a valid row,
--- then the check finds no fault in the reading.
+-- Suppose that the rules for valid readings accept a voided (cancelled) reading directly after a
+-- valid row. Then the check of a meter's tables finds no fault in the reading.
 no_stood_fault : (meter : Installed) (rows : List EntryRow) (reported : TableRow)
     → (last_stands rows ≡ true → IsAcceptedAs meter (entries_in rows) reported.moment reported.raw reported.rolls)
     → stood_fault meter (check_after meter rows) kind.Reading reported ≡ None
@@ -101,7 +101,8 @@ no_stood_fault meter rows reported h =
 abbrev row_with : (place : ℕ) → EntryKind → Entry → Bool → EntryRow
 row_with place k e stands = record { place = place; kind = k; entry = e; stands = stands }
 
--- The table row that encodes an entry row, given the list of entry rows before it.
+-- The table row (the column values) that encodes the meter entry `row`. The entries before it, in
+-- `rows`, determine the scale factor in the row.
 abbrev reported_after : Installed → List EntryRow → EntryRow → TableRow
 reported_after meter rows row = table_row (scale_after meter (row ∷ rows)) row
 

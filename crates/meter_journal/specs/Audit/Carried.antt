@@ -1,6 +1,6 @@
 -- A meter whose journal (history) is split over two database files. The opening entry in the new
--- file has the state of the meter's last valid entry in the old file. `lines` is the journal in the
--- old file, and `more` is the journal in the new file. The latest line comes first.
+-- file has the state of the meter's last valid (not voided) entry in the old file. `lines` is the
+-- journal in the old file, and `more` is the journal in the new file. The latest line comes first.
 use Rattle.std.specs.Prelude.{◌≡◌, ◌≢◌, ℕ, ℤ, ◌+◌, ◌==◌, ◌≤◌, false, List, [], ◌∷◌, ◌++◌, map, filter}
 use Rattle.energy_core.specs.declared.limits.TheConstants.{MAX_TOTAL}
 use Rattle.energy_core.specs.declared.verdicts.Cause.TheVariants.{TotalFull}
@@ -17,7 +17,7 @@ use Rattle.meter_journal.specs.Journal.{Line, Entered, Held, Voided, Journal, is
 use Rattle.meter_journal.specs.Standing.{entered_count}
 
 -- The meter as it is installed in the new database file. Its opening (first) entry has the time,
--- count and scale factor of the last valid entry in the old file.
+-- count and scale factor of the last valid (not voided) entry in the old file.
 abbrev pub carried : Installed → (lines : Journal) → Installed
 carried meter lines =
     record { range = meter.range; ceiling = meter.ceiling; opening = last_in meter lines }
@@ -61,8 +61,9 @@ pub record GoesOn (meter : Installed) (lines more : Journal) : Type 0 where
       ≡ with_shares (interval_rows meter lines) (interval_rows (carried meter lines) more)
   pub again : carried (carried meter lines) more ≡ carried meter (joined_journal lines more)
 
--- Theorem: a meter whose journals in the old and the new database file are lawful (the rules accept
--- them) continues as `GoesOn` describes.
+-- Theorem: suppose that the rules for meter entries accept a meter's journals (histories) in the
+-- old and the new database file. Then `GoesOn` holds: their joined history has the entries and
+-- energies of both files.
 abbrev pub CarriesGoOn : Type 0
 CarriesGoOn = (meter : Installed) (lines more : Journal) → IsWellInstalled meter
     → AreFitting meter lines
@@ -95,26 +96,27 @@ pub record CountsOnce (meter : Installed) (lines more : Journal) : Type 0 where
   pub rows : AreCountedOnce (interval_rows meter lines) (interval_rows (carried meter lines) more)
       (interval_rows meter (joined_journal lines more))
 
--- Theorem: if the rules accept a meter's journals in the old and the new database file, the joined
--- journal counts each quarter hour once.
+-- Theorem: if the rules for meter entries accept a meter's journals (histories) in the old and the
+-- new database file, the journal of both files together counts each quarter hour once.
 abbrev pub CarriesCountOnce : Type 0
 CarriesCountOnce = (meter : Installed) (lines more : Journal) → IsWellInstalled meter
     → AreFitting meter lines
     → AreFitting (carried meter lines) more
     → CountsOnce meter lines more
 
--- States that, after each line of the new database file, the energy of the meter in both files is
--- within the limit of one meter.
+-- States that, after each line (entry or void) of the new database file, the meter has at most
+-- `MAX_TOTAL` energy in the old and the new file together.
 abbrev pub StaysWithin : Installed → (lines more : Journal) → Type 0
 StaysWithin meter lines [] = Unit {0}
 StaysWithin meter lines (line ∷ more) =
     (total_in meter lines + total_in (carried meter lines) (line ∷ more) ≤ MAX_TOTAL)
     × StaysWithin meter lines more
 
--- Theorem: the rules accept the joined journal of both database files if three conditions are true.
--- The rules accept each file's journal, the meter was open at the end of the old file, and its
--- energy stays within the limit. In the joined journal, readings keep their rollovers or causes of
--- rejection, and the same entries and voids (cancellations) are allowed.
+-- Theorem: the rules for meter entries accept the joined journal (history) of both database files
+-- if three conditions are true. The rules accept each file's journal, the meter was open at the end
+-- of the old file, and its energy stays within the limit. In the joined journal, readings keep
+-- their rollovers or causes of rejection, and the same entries and voids (cancellations) are
+-- allowed.
 abbrev pub CarriedJournalsFit : Type 0
 CarriedJournalsFit = (meter : Installed) (lines more : Journal) → IsWellInstalled meter
     → AreFitting meter lines
@@ -123,30 +125,30 @@ CarriedJournalsFit = (meter : Installed) (lines more : Journal) → IsWellInstal
     → StaysWithin meter lines more
     → AreFitting meter (joined_journal lines more)
 
--- States that a line of a meter's journal can be recorded in the new database file instead of the
--- old file. Such a line does not void (cancel) an entry of the old file. It does not reject a
--- reading because of the limit of the total energy.
+-- States that a line of a meter's journal (history) can be recorded in the new database file
+-- instead of the old file. Such a line does not void (cancel) an entry of the old file. It does not
+-- reject a reading because of the limit of the total energy.
 abbrev pub ComesLater : (count : ℕ) → Line → Type 0
 ComesLater count (Entered k e) = Unit {0}
 ComesLater count (Held reading cause) = cause ≢ TotalFull
 ComesLater count (Voided place) = count + 2 ≤ place
 
--- States that each line of the meter's journal can be recorded in the new database file instead of
--- the old file.
+-- States that each line of the meter's journal (history) can be recorded in the new database file
+-- instead of the old file.
 abbrev pub AllComeLater : (count : ℕ) → Journal → Type 0
 AllComeLater count [] = Unit {0}
 AllComeLater count (line ∷ lines) = ComesLater count line × AllComeLater count lines
 
--- States that the lines `later` can be recorded in a new database file instead of the old file,
--- where they would follow `lines`. The rules accept the lines in the new file.
+-- States that the journal lines `later`, which would follow `lines` in the old database file, can
+-- be recorded in a new file instead. The rules for meter entries accept them there.
 pub record IsSplit (meter : Installed) (lines later : Journal) : Type 0 where
   pub more : Journal
   pub joined : joined_journal lines more ≡ later ++ lines
   pub fit : AreFitting (carried meter lines) more
 
 -- Theorem: suppose that journal lines void (cancel) no entry of a meter's old database file, and
--- reject no reading because of the total energy's limit. If the rules accept the lines in the old
--- file, they also accept them in a new file.
+-- reject no reading because of the total energy's limit. If the rules for meter entries accept the
+-- lines in the old file, they also accept them in a new file.
 abbrev pub LaterLinesAreCarried : Type 0
 LaterLinesAreCarried = (meter : Installed) (lines later : Journal) → IsWellInstalled meter
     → AreFitting meter (later ++ lines)

@@ -13,7 +13,7 @@ use Rattle.meter_journal.specs.Audit.Laws.{AreLawful}
 
 -- States that the meter `meter` of an old database file continues as the meter `next` of a new
 -- file. The meter was open, and its range and ceiling (maximum power) are unchanged. Its opening
--- (first) entry in the new file has the state of its last valid entry in the old file.
+-- (first) entry in the new file has the state of its last valid (not voided) entry in the old file.
 pub record GoesOnAs (meter : Installed) (last : Last) (ended : Bool) (next : Installed) : Type 0
   where
     pub unended : ended ≡ false
@@ -27,8 +27,9 @@ pub record InFile : Type 0 where
   pub meter : Installed
   pub tables : Tables
 
--- States that the tables that each later database file has for a meter are consistent. Also states
--- that the meter continues in each file from the file before it.
+-- States that, in each later database file, the meter's tables are consistent: they are those of
+-- entries that the rules for meter entries accept. The meter continues in each file from the file
+-- before it.
 abbrev pub GoOn : InFile → (later : List InFile) → Type 0
 GoOn old [] = Unit {0}
 GoOn old (new ∷ later) =
@@ -48,14 +49,15 @@ reported_by_both old new = record {
   ended = new.ended;
 }
 
--- The joint report of a database file and all later files about a meter.
+-- The tables of a meter, joined over a database file and all later files. The total energies of the
+-- files add up, and the meter counts as closed if the last file has it closed.
 abbrev pub entry_from_all_rows : Tables → (later : List InFile) → Tables
 entry_from_all_rows old [] = old
 entry_from_all_rows old (new ∷ later) = entry_from_all_rows (reported_by_both old new.tables) later
 
--- Theorem: suppose that the tables of each database file are consistent, and the meter continues
--- from file to file, with total energy within the limit. Then the joint report of all files is that
--- of one lawful journal, a history that the rules accept.
+-- Theorem: suppose that, in each database file, the meter's tables are those of entries that the
+-- rules for meter entries accept. If the meter continues from file to file, with total energy
+-- within the limit, the joint report is that of one lawful history.
 abbrev pub FilesAreOneHistory : Type 0
 FilesAreOneHistory = (first : InFile) (later : List InFile) → IsWellInstalled first.meter
     → AreFine first.meter first.tables

@@ -48,8 +48,9 @@ pub record AreOne (count : ℕ) (old new both : Tables) : Type 0 where
   pub once : AreCountedOnce old.intervals new.intervals both.intervals
   pub ended : both.ended ≡ new.ended
 
--- Theorem: suppose that a meter is open at the end of the old database file, and the rules accept
--- its rows in both files. Then the joined tables of both files are those of one meter (`AreOne`).
+-- Theorem: suppose that a meter is open at the end of the old database file, and the rules for
+-- meter entries accept its rows in both files. Then the joined tables of both files are those of
+-- one meter (`AreOne`).
 abbrev pub CarriedTablesAreOne : Type 0
 CarriedTablesAreOne = (meter : Installed) (old new : List EntryRow) → IsWellInstalled meter
     → AllFit meter old
@@ -69,9 +70,9 @@ EntriesStayWithin meter old (row ∷ rows) =
     ≤ MAX_TOTAL)
     × EntriesStayWithin meter old rows
 
--- Theorem: the joined tables of a meter in the old and the new database file are consistent if
--- three conditions are true. The meter is open at the end of the old file, the rules accept each
--- file's rows, and the energy stays within its limit.
+-- Theorem: under three conditions, the joined tables of a meter in two database files are
+-- consistent (those of entries that the rules for meter entries accept). The meter is open at the
+-- end of the old file, the rules accept each file's rows, and the energy stays within its limit.
 abbrev pub CarriedTablesAreFine : Type 0
 CarriedTablesAreFine = (meter : Installed) (old new : List EntryRow) → IsWellInstalled meter
     → AllFit meter old

@@ -24,8 +24,8 @@ next_fault [] (row ∷ found) = Some (fault.Unwanted row.start row.mwh)
 next_fault (row ∷ wanted) [] = Some (fault.Missing row.start row.mwh)
 next_fault (row ∷ wanted) (other ∷ found) = fault_between row other
 
--- The number of computed interval rows (energies by quarter hour) that a difference between the
--- lists covers. It is 0 if the table has an unwanted row, otherwise 1.
+-- How many computed interval rows (energies by quarter hour) a difference between the computed and
+-- the stored list concerns. It is 0 for a stored row that was not computed, otherwise 1.
 abbrev pub wanted_with : IntervalFault → ℕ
 wanted_with (fault.Missing start wanted) = 1
 wanted_with (fault.Unwanted start has) = 0

@@ -14,7 +14,7 @@ use Rattle.meter_journal.specs.declared.audit.rows.RowKind.{RowKind}
 use Rattle.meter_journal.specs.declared.audit.rows.RowKind.TheVariants as row_kind
 use Rattle.meter_journal.specs.declared.audit.rows.TableRow.{TableRow}
 
--- The kind column of a table row, given the kind of its entry.
+-- The value of the kind column in a row of the table of entries, given the kind of the row's entry.
 abbrev pub kind_as : EntryKind → RowKind
 kind_as kind.Reading = row_kind.Reading
 kind_as kind.Manual = row_kind.Manual
@@ -38,11 +38,12 @@ abbrev pub after_of : Entry → ℕ
 after_of (entry.Step at raw rolls) = 0
 after_of (entry.Change at before after sf) = after
 
--- The counter's scale factor after the valid rows of a list.
+-- The counter's scale factor after the valid (not voided) rows of a list.
 abbrev pub scale_after : Installed → List EntryRow → ℤ
 scale_after meter rows = (last_after meter (entries_in rows)).sf
 
--- The table row of an entry, where `sf` is the scale factor after the entry.
+-- The row of an entry in the database table of entries, where `sf` is the scale factor after the
+-- entry.
 abbrev pub table_row : (sf : ℤ) → EntryRow → TableRow
 table_row sf row = record {
   place = row.place;
@@ -55,7 +56,7 @@ table_row sf row = record {
   is_voided = not row.stands;
 }
 
--- The table row of a meter's opening, its first entry.
+-- The row of a meter's opening (its first entry) in the database table of entries.
 abbrev pub opening_row : Last → TableRow
 opening_row opening = record {
   place = 1;
@@ -68,14 +69,14 @@ opening_row opening = record {
   is_voided = false;
 }
 
--- The table rows of a list of entry rows, each with the scale factor after its entry. The latest
--- row comes first.
+-- The rows of a list of meter entries in the database table of entries, each with the scale factor
+-- after its entry. The latest row comes first.
 abbrev pub later_rows : Installed → List EntryRow → List TableRow
 later_rows meter [] = []
 later_rows meter (row ∷ rows) =
     table_row (scale_after meter (row ∷ rows)) row ∷ later_rows meter rows
 
--- The table rows of a meter: the opening row, and the rows of all later entries. The latest row
--- comes first.
+-- The rows of a meter in the database table of entries: the opening row, and the rows of all later
+-- entries. The latest row comes first.
 abbrev pub table_rows : Installed → List EntryRow → List TableRow
 table_rows meter rows = later_rows meter rows ++ opening_row meter.opening ∷ []

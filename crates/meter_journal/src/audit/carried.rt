@@ -1,6 +1,6 @@
 //! Theorems about a meter whose rows are in two database files. The meter continues in the new file
 //! from its last entry in the old file. Each theorem is the contract of a function, for all lawful
-//! journals (histories that the rules accept).
+//! journals (histories that the rules for meter entries accept).
 ghost use Rattle.meter_journal.specs.Audit.Carried.{CarriesGoOn, CarriesCountOnce, CarriedJournalsFit};
 ghost use Rattle.meter_journal.specs.Audit.Carried.{LaterLinesAreCarried};
 ghost use Rattle.meter_journal.specs.Audit.CarriedTables.{CarriedTablesAreOne, CarriedTablesAreFine};
@@ -27,15 +27,15 @@ pub fn carries_count_once()
 
 /// Theorem: suppose that a meter is open at the end of the old database file, and its energy stays
 /// within the limit of one meter. Then its journals (histories) in the old and the new file
-/// together are one journal that the rules accept.
+/// together are one journal that the rules for meter entries accept.
 pub fn carried_journals_fit()
     ensures { CarriedJournalsFit }
 {}
 
 /// Theorem: suppose that journal lines void (cancel) no entry of a meter's old database file, and
-/// reject no reading because of the total energy's limit. If the rules accept the lines in the old
-/// file, they also accept them in a new file. The journals of both files together then equal the
-/// journal of a single file.
+/// reject no reading because of the total energy's limit. If the rules for meter entries accept the
+/// lines in the old file, they also accept them in a new file. The journals of both files together
+/// then equal the journal of a single file.
 pub fn later_lines_are_carried()
     ensures { LaterLinesAreCarried }
 {}
@@ -48,17 +48,18 @@ pub fn carried_tables_are_one()
     shares_add_up();
 }
 
-/// Theorem: a meter's tables in an old and a new database file together are consistent if three
-/// conditions are true. The meter is open at the end of the old file, the rules accept each file's
-/// rows, and the energy stays within its limit.
+/// Theorem: under three conditions, a meter's tables in two database files together are consistent
+/// (those of entries that the rules for meter entries accept). The meter is open at the end of the
+/// old file, the rules accept each file's rows, and the energy stays within its limit.
 pub fn carried_tables_are_fine()
     ensures { CarriedTablesAreFine }
 {}
 
-/// Theorem: suppose that the tables of each database file are consistent, and a meter continues
-/// from file to file, with total energy within the limit. Then the tables of all files report the
-/// state of one lawful history, which means that the rules accept the history. The state consists
-/// of the last entry, the energy, the interval rows, and whether the meter was closed.
+/// Theorem: suppose that, in each database file, a meter's tables are those of entries that the
+/// rules for meter entries accept. Suppose that the meter continues from file to file, with total
+/// energy within the limit. Then the tables of all files report the state of one history that the
+/// rules accept. The state consists of the last entry, the energy, the interval rows, and whether
+/// the meter was closed.
 pub fn files_are_one_history()
     ensures { FilesAreOneHistory }
 {

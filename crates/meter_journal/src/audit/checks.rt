@@ -1,4 +1,5 @@
-//! Checks the entry rows of a meter one after another, in constant memory.
+//! Checks one after another whether the rules for meter entries accept the entry rows of a meter,
+//! in constant memory.
 ghost use Rattle.std.specs.Prelude.{◌≡◌, ◌+◌, ◌<◌, ◌^◌, IfOk};
 ghost use Rattle.std.specs.Option.{ForSome};
 ghost use Rattle.energy_core.specs.Laws.{IsShareable};
@@ -10,8 +11,9 @@ use crate::audit::rows::{TableRow, entry_of, has_unused, kind_of};
 use crate::{EntryKind, Installed};
 use energy_core::{Cause, Last, Ranged, Reading, Step, Terms, Verdict, enter, judge};
 
-/// The state of a check after an entry row: its sequence number, the last valid entry, the energy
-/// in mWh, whether the meter was closed, and whether the row is valid.
+/// The state of the check of a meter's rows after an entry row: its sequence number, the last valid
+/// (not voided) entry, the energy in mWh, whether the meter was closed, and whether the row is
+/// valid.
 #[derive(Clone, Copy, PartialEq, Eq)]
 pub struct Check {
     pub place: u64,
@@ -21,7 +23,8 @@ pub struct Check {
     pub stands: bool,
 }
 
-/// Returns the state of a check after the opening row, which has the meter's first count.
+/// Returns the state of the check of a meter's rows after the opening row, which has the meter's
+/// first count.
 pub fn begin(meter: &Installed) -> Check
     requires { passing.MayBeChecked meter.now }
     ensures value { result ≡ passing.begun meter.now }
@@ -46,7 +49,7 @@ fn is_reading(kind: EntryKind) -> bool
     }
 }
 
-/// Returns whether a row changes the scale factor although it is not a rescale.
+/// Returns whether a row changes the counter's scale factor although the row is not a rescale.
 fn is_off_scale(check: &Check, kind: EntryKind, row: &TableRow) -> bool
     ensures { result ≡ passing.is_off_scale check.now kind row.now }
 {
@@ -88,8 +91,8 @@ fn shape(check: &Check, row: &TableRow) -> Result<EntryKind, RowFault>
     Ok(kind)
 }
 
-/// Returns why the rules reject a row as a valid (not voided) reading. Returns `None` if the rules
-/// accept the reading, or if the row's kind is not a reading.
+/// Returns why the rules for meter entries reject a row as a valid (not voided) reading. Returns
+/// `None` if the rules accept the reading, or if the row's kind is not a reading.
 fn reading_fault(
     meter: &Installed,
     check: &Check,
@@ -127,8 +130,9 @@ fn reading_fault(
     }
 }
 
-/// Returns why the rules reject a voided (cancelled) reading that directly follows a valid row.
-/// Returns `None` if the rules accept the reading, or if the row before is voided.
+/// Returns why the rules for meter entries reject a voided (cancelled) reading that directly
+/// follows a valid row. Returns `None` if the rules accept the reading, or if the row before is
+/// voided.
 fn stood_fault(
     meter: &Installed,
     check: &Check,
@@ -166,8 +170,9 @@ fn voided_fault(meter: &Installed, check: &Check, row: &TableRow) -> Option<RowF
     None
 }
 
-/// Returns the state of the check after a valid row, and the step to the row's entry (the energy
-/// since the last valid entry). On error, returns the first fault of the row.
+/// Returns the state of the check of a meter's rows after a valid (not voided) row, and the step to
+/// the row's entry (the energy since the last valid entry). On error, returns the first fault of
+/// the row.
 fn check_valid_row(
     meter: &Installed,
     check: &Check,
@@ -207,12 +212,12 @@ fn check_valid_row(
     }
 }
 
-/// Checks the next row. Returns the state of the check after the row, and the step to the row's
-/// entry (the energy since the last valid entry). A voided (cancelled) row has no step. On error,
-/// returns the first fault of the row.
+/// Checks the next entry row of a meter. Returns the state of the check after the row, and the step
+/// to the row's entry (the energy since the last valid entry). A voided (cancelled) row has no
+/// step. On error, returns the first fault of the row.
 ///
-/// To continue after a refused row, set `place` of the check to the row's sequence number, and
-/// change nothing else.
+/// To continue the check of a meter's rows after a refused row, set the field `place` of the
+/// check's state to the row's sequence number, and change nothing else.
 pub fn pass(
     meter: &Installed,
     check: &Check,

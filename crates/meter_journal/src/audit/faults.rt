@@ -19,13 +19,14 @@ pub enum RowFault {
     /// The row changes the scale factor but is not a rescale. The expected scale factor is
     /// `wanted`.
     Scale { wanted: i16 },
-    /// The row is a reading that the rules would have rejected for this cause when it was recorded.
+    /// The row is a reading that the rules for meter entries would have rejected for this cause
+    /// when it was recorded.
     Held(Cause),
     /// The rollovers of a reading are wrong, and `wanted` is the expected number. A valid reading
     /// needs the rollovers computed from the entry before it, and a voided (cancelled) reading has
     /// at most one.
     Rolls { wanted: u8 },
-    /// The row is a manual entry (made by a person) that the rules would have refused for this
-    /// fault.
+    /// The row is a manual entry (made by a person) that the rules for meter entries would have
+    /// refused for this fault.
     Refused(TermFault),
 }

@@ -1,4 +1,5 @@
-//! Checks all entry rows of a meter at once.
+//! Checks all entry rows of a meter in one call: the rules for meter entries must accept each row
+//! after the rows before it.
 ghost use Rattle.std.specs.Prelude.{◌<◌, ◌^◌, All, reverse, IfOk, IfErr};
 ghost use Rattle.meter_journal.specs.Audit.Fitting.{AreReported};
 ghost use Rattle.meter_journal.specs.Audit.Passing.{MayBeChecked};
@@ -10,8 +11,8 @@ use crate::audit::faults::RowFault;
 use crate::audit::laws::passed_rows_fit;
 use crate::audit::rows::TableRow;
 
-/// The index of the first entry row that the rules do not accept after the rows before it, and the
-/// reason.
+/// The index of the first entry row that the rules for meter entries do not accept after the rows
+/// before it, and the reason.
 #[derive(Clone, Copy, PartialEq, Eq)]
 pub struct RefusedRow {
     pub index: usize,

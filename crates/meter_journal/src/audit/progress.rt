@@ -14,17 +14,17 @@ use crate::{Installed, append_shares};
 use interval_core::{Share, shares_add_up};
 use std::alloc::{AllocError, Global};
 
-/// The state of a meter's check after an entry row, and the pending interval rows (energies by
-/// quarter hour). The pending rows were computed from the entries and have not been compared with
-/// the table yet. The next entry may add energy only to the last pending row.
+/// The state of the check of a meter's tables after an entry row, and the pending interval rows
+/// (energies by quarter hour). The pending rows were computed from the entries and have not been
+/// compared with the table yet. The next entry may add energy only to the last pending row.
 #[derive(Drop)]
 pub struct Progress {
     pub check: Check,
     pub wanted: Vec<Share>,
 }
 
-/// Begins a check of a meter after the opening row (the meter's first entry). Stores the allocator
-/// for later, and allocates nothing.
+/// Begins a check of a meter's table rows after the opening row (the meter's first entry). Stores
+/// the allocator for later, and allocates nothing.
 pub fn start(alloc: Global, meter: &Installed) -> Progress
     requires { MayBeChecked meter.now }
     ensures sound { IsSoundProgress meter.now result }
@@ -36,11 +36,11 @@ pub fn start(alloc: Global, meter: &Installed) -> Progress
     }
 }
 
-/// Checks the next entry row of a meter. Returns the row's fault if the check refuses the row. In
-/// this case, only the check's sequence number advances.
+/// Checks the next row of a meter in the table of entries. Returns the row's fault if the check
+/// refuses the row. After a refusal, only the check's sequence number has advanced.
 ///
-/// The only error is out of memory. The interval rows (energies by quarter hour) still to be
-/// compared are unspecified after an error.
+/// The function's only error is that memory ran out. After this error, the interval rows (energies
+/// by quarter hour) still to be compared are unspecified.
 pub fn take_row(
     meter: &Installed,
     progress: &mut Progress,
@@ -69,7 +69,8 @@ pub fn take_row(
     }
 }
 
-// Removes all pending interval rows (still to be compared) except the last row.
+// Removes all interval rows (energies by quarter hour) that are still to be compared, except the
+// last row.
 fn leave_last(wanted: &mut Vec<Share>)
     ensures { let done = settled_in wanted.old.items in
         wanted.new.items ≡ drop done wanted.old.items }

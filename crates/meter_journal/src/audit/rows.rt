@@ -10,7 +10,7 @@ use energy_core::Entry;
 pub enum RowKind {
     /// The opening of the meter: its first count, recorded when the meter was installed.
     Opening,
-    /// A reading of the meter that the rules accepted.
+    /// A reading of the meter that the rules for meter entries accepted.
     Reading,
     /// A count that a person read from the meter and entered.
     Manual,
@@ -37,8 +37,8 @@ pub struct TableRow {
     pub is_voided: bool,
 }
 
-/// Returns the kind of the entry that a table row records, or `None` for an opening, the first
-/// entry of a meter.
+/// Returns the kind of the entry that a row of the table of entries records, or `None` for an
+/// opening, the first entry of a meter.
 pub(crate) fn kind_of(row: &TableRow) -> Option<EntryKind>
     ensures { result ≡ passing.kind_in row.now.kind }
 {
@@ -52,7 +52,7 @@ pub(crate) fn kind_of(row: &TableRow) -> Option<EntryKind>
     }
 }
 
-/// Returns the entry that a table row of the kind `kind` records.
+/// Returns the meter entry that a row of the table of entries records. `kind` is the entry's kind.
 pub(crate) fn entry_of(kind: EntryKind, row: &TableRow) -> Entry
     ensures { result ≡ passing.entry_in kind row.now }
 {
@@ -71,7 +71,8 @@ pub(crate) fn entry_of(kind: EntryKind, row: &TableRow) -> Entry
     }
 }
 
-/// Returns whether a column is not 0 although entries of the kind `kind` do not use it.
+/// Returns whether a column of a row of the table of entries is not 0 although entries of the row's
+/// kind `kind` do not use the column.
 pub(crate) fn has_unused(kind: EntryKind, row: &TableRow) -> bool
     ensures { result ≡ passing.has_unused kind row.now }
 {

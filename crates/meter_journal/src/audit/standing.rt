@@ -5,8 +5,8 @@ ghost use Rattle.std.specs.Prelude.{◌≡◌, ◌↔◌, IsTrue, IsNone, IfSome
 use crate::audit::checks::Check;
 use energy_core::Last;
 
-/// The values in a meter's row of the table `installations`: the last valid entry, the total energy
-/// in mWh, and whether the meter was closed.
+/// The values in a meter's row of the table `installations`: the last valid (not voided) entry, the
+/// total energy in mWh, and whether the meter was closed.
 #[derive(Clone, Copy, PartialEq, Eq)]
 pub struct Standing {
     pub last: Last,
@@ -14,8 +14,8 @@ pub struct Standing {
     pub is_ended: bool,
 }
 
-/// The computed values that differ from those in a meter's row of `installations`. A field is
-/// `None` if the row has the computed value.
+/// The values that an audit computed from a meter's entries and that differ from the meter's row of
+/// `installations`. A field is `None` if the row has the computed value.
 #[derive(Clone, Copy)]
 pub struct StandingFaults {
     pub last: Option<Last>,
@@ -30,8 +30,8 @@ fn is_same(last: &Last, other: &Last) -> bool
     last.at == other.at && last.raw == other.raw && last.sf == other.sf
 }
 
-/// Returns the differences between a meter's row of `installations` and the state of the check
-/// after all entries.
+/// Returns the differences between a meter's row of `installations` and the state that the check of
+/// the meter's entries computed from all entries.
 pub fn standing_faults(check: &Check, standing: &Standing) -> StandingFaults
     ensures last { IsNone result.last ↔ (standing.now.last ≡ check.now.last) }
     ensures total { IsNone result.total ↔ (standing.now.total ≡ check.now.total) }

@@ -93,7 +93,7 @@ intervals_of_the_new : rows_of_meter (facts_of (Fed 3700 (manual 45 0 None) ∷ 
 unfolding unit_of frames frames_in rest rest_in is_garbled is_over is_closed stream next_id frames_at ending_at settled_by pending outcomes_at
 intervals_of_the_new = refl
 
--- A change of a counter's scale factor, then a start of a poll.
+-- Example events: a change of a counter's scale factor, and then the start of a poll.
 abbrev rescaled : History
 rescaled = Fed 2800 (start three_words) ∷ Fed 2000 (rescale 5200 520 (pos 1)) ∷ answered
 
@@ -109,7 +109,7 @@ at_the_old_scale : reported rescaled 2800 (reply 1 20 80 0) ≡ note.Outcome 2 o
 unfolding unit_of frames frames_in rest rest_in is_garbled is_over is_closed stream next_id frames_at ending_at settled_by pending outcomes_at
 at_the_old_scale = refl
 
--- A reset of a counter to 0, then a start of a poll.
+-- Example events: a reset of a counter to 0, and then the start of a poll.
 abbrev set_to_0 : History
 set_to_0 = Fed 2800 (start three_words) ∷ Fed 2000 (reset 5250 0) ∷ answered
 

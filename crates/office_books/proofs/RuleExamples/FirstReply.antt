@@ -1,4 +1,4 @@
--- A worked example: one response contains one reading.
+-- A worked example: the response of a device to a poll contains one reading of a meter.
 use Rattle.std.proofs.Common.{◌≡◌, pos, false, [], ◌∷◌, Some, None, Ok, refl}
 use Rattle.energy_core.specs.Value.{unit_of}
 use Rattle.energy_core.specs.declared.entries.Entry.TheVariants as entry

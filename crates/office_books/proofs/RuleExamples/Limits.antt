@@ -29,8 +29,8 @@ timeouts = (refl, refl, refl, refl)
 windows : (adds 1 5 0 ≡ true) × (adds 1 5 1 ≡ false) × (adds 1 5 16 ≡ false) × (adds 1 5 17 ≡ true)
 windows = (refl, refl, refl, refl)
 
--- Examples of the limits of a new accounting register's function code, Modbus address and scale
--- factor.
+-- Examples of the limits of a new accounting register's function code,
+-- Modbus address and scale factor.
 
 abbrev registers : (function address : ℕ) → GivenScale → Bool
 registers function address scale =
@@ -86,7 +86,8 @@ closes rolls = asks_bad_field 0 (command.Close (record { register = Some main; r
 turns : (closes 255 ≡ false) × (closes 256 ≡ true)
 turns = (refl, refl)
 
--- Examples of the maximum numbers of devices, accounting registers and meters.
+-- Examples of the maximum numbers of devices, accounting registers (named energy counters) and
+-- meters.
 
 abbrev adds_after : (devices : List Slot) → Bool
 adds_after devices = is_crowded devices [] (command.AddDevice (record { name = Some inv; unit = 1; timeout = 5; window = 1 }))

@@ -61,7 +61,7 @@ opened_too_early : opening_refusal_of (facts_of started) 1897 ≡ Some refusal.C
 unfolding unit_of frames frames_in rest rest_in is_garbled is_over is_closed stream next_id frames_at ending_at settled_by pending outcomes_at
 opened_too_early = refl
 
--- A point list whose plan has two reads.
+-- A point list whose plan (the Modbus reads that cover its points) has two reads.
 abbrev list : Planned
 list = record {
   points = record { name = 97 ∷ []; function = HoldingRegisters; area = 0; address = 0; kind = point.Acc32; scale = scale.Unscaled }
@@ -91,7 +91,7 @@ no_room_for_the_second : decision_of (Fed 1000 (round 0) ∷ listed 1) 1000 (rou
 unfolding unit_of frames frames_in rest rest_in is_garbled is_over is_closed stream next_id frames_at ending_at settled_by pending outcomes_at
 no_room_for_the_second = refl
 
--- The events up to the response to the first read of a polling round.
+-- Example events up to the response to the first read of a polling round.
 abbrev first_read : History
 first_read = Fed 1001 (bytes ((0 ∷ 0 ∷ 0 ∷ 0 ∷ 0 ∷ 253 ∷ 1 ∷ 3 ∷ 250 ∷ []) ++ replicate 250 0)) ∷ Fed 1000 (round 0) ∷ listed 1
 

@@ -1,4 +1,5 @@
--- The names, events and histories that the worked examples use.
+-- The names, events and histories that the worked examples of the rules for polls and meter entries
+-- use.
 use Rattle.std.proofs.Common.{ℕ, ℤ, ◌++◌, pos, List, [], ◌∷◌, Option, Some, lit≤}
 use Rattle.std.specs.Option.{option_map}
 use Rattle.mb_wire.specs.declared.span.ReadFunction.TheVariants.{HoldingRegisters}
@@ -17,7 +18,7 @@ use Rattle.office_books.specs.History.{History, Opened, Fed, facts_of}
 use Rattle.office_books.specs.Refusals.{decision_of}
 use Rattle.office_books.specs.Notes.{notes_after, outgoing_after}
 
--- Example names of a device, an accounting register, a meter and a caller.
+-- Example names of a device, an accounting register (a named energy counter), a meter and a caller.
 
 abbrev pub inv : List ℕ
 inv = 105 ∷ 110 ∷ 118 ∷ []
@@ -34,8 +35,8 @@ m2 = 109 ∷ 50 ∷ []
 abbrev pub desk : List ℕ
 desk = 100 ∷ 101 ∷ 115 ∷ 107 ∷ []
 
--- Example events that add a device, an accounting register and a meter, and that connect and poll
--- the device.
+-- Example events that add a device, an accounting register (a named energy counter) and a meter,
+-- and that connect and poll the device.
 
 abbrev pub device : (name : List ℕ) → (window : ℕ) → Event
 device name window = event.Command (command.AddDevice (record { name = Some name; unit = 1; timeout = 5; window = window }))
@@ -115,7 +116,8 @@ asked request last = event.Asked (record { caller = Some desk; number = 7; reque
 
 -- Example histories of accepted events.
 
--- The events that add a device, an accounting register and a meter, and that start a poll.
+-- Example events that add a device, an accounting register (a named energy counter) and a meter,
+-- and that start a poll.
 abbrev pub started : History
 started = Fed 1898 (start three_words) ∷ Fed 1898 connect ∷ Fed 1000 (install 5000 (pos 0) 100000 full_range)
     ∷ Fed 1000 (register (given.Register 40096)) ∷ Fed 1000 (device inv 1) ∷ Opened 0 ∷ []
@@ -125,11 +127,12 @@ started = Fed 1898 (start three_words) ∷ Fed 1898 connect ∷ Fed 1000 (instal
 abbrev pub reply : (id high low sf : ℕ) → Event
 reply id high low sf = bytes (0 ∷ id ∷ 0 ∷ 0 ∷ 0 ∷ 9 ∷ 1 ∷ 3 ∷ 6 ∷ 0 ∷ 0 ∷ high ∷ low ∷ 0 ∷ sf ∷ [])
 
--- The events up to a response with the counter value 5200.
+-- An example history of accepted events: a read was started, and the device's response with the
+-- counter value 5200 arrived at time 1900.
 abbrev pub answered : History
 answered = Fed 1900 (reply 0 20 80 0) ∷ started
 
--- The events that install a meter with a fixed scale factor at a given time.
+-- Example events that install a meter with a fixed scale factor at a given time.
 abbrev pub house : (at raw : ℕ) → (sf : ℤ) → (ceiling range : ℕ) → History
 house at raw sf ceiling range = Fed at connect ∷ Fed at (install raw sf ceiling range) ∷ Fed 0 (register (given.Fixed sf))
     ∷ Fed 0 (device inv 1) ∷ Opened 0 ∷ []
@@ -137,7 +140,8 @@ house at raw sf ceiling range = Fed at connect ∷ Fed at (install raw sf ceilin
 abbrev pub shows : (id : ℕ) → (counter : List ℕ) → Event
 shows id counter = bytes ((0 ∷ id ∷ 0 ∷ 0 ∷ 0 ∷ 7 ∷ 1 ∷ 3 ∷ 4 ∷ []) ++ counter)
 
--- The events after a reading of the meter at a given time, with a given counter value.
+-- The given earlier events, followed by the events of a reading of the meter at a given time, with
+-- a given counter value.
 abbrev pub read : (at id : ℕ) → (counter : List ℕ) → History → History
 read at id counter past = Fed at (shows id counter) ∷ Fed at (start two_words) ∷ past
 

@@ -56,7 +56,7 @@ before_one_by_hand : decision_of (Fed 2800 (manual 5300 0 None) ∷ answered) 40
 unfolding unit_of frames frames_in rest rest_in is_garbled is_over is_closed stream next_id frames_at ending_at settled_by pending outcomes_at
 before_one_by_hand = refl
 
--- A second reading of 5300 counts at 2800 s.
+-- Example events with two readings of a meter. The second reading has 5300 counts at 2800 s.
 abbrev two : History
 two = Fed 2800 (reply 1 20 180 0) ∷ Fed 2800 (start three_words) ∷ answered
 
@@ -79,8 +79,8 @@ with_its_neighbours : entry_at (facts_of two) m1 2 ≡ Some (record {
 unfolding unit_of frames frames_in rest rest_in is_garbled is_over is_closed stream next_id frames_at ending_at settled_by pending outcomes_at
 with_its_neighbours = refl
 
--- A meter with a greatest power of 4 W. It shows 10 counts at 0 s, 12 counts at 900 s and 14 counts
--- at 1800 s.
+-- Example: a meter with a greatest power of 4 W. It shows 10 counts at 0 s, 12 counts at 900 s and
+-- 14 counts at 1800 s.
 abbrev slow : History
 slow = read 1800 1 (0 ∷ 0 ∷ 0 ∷ 14 ∷ []) (read 900 0 (0 ∷ 0 ∷ 0 ∷ 12 ∷ []) (house 0 10 (pos 0) 4 full_range))
 
@@ -96,7 +96,8 @@ the_last_may_go : decision_of slow 4000 (void 3) ≡ Ok (answer.Done done.Void)
 unfolding unit_of frames frames_in rest rest_in is_garbled is_over is_closed stream next_id frames_at ending_at settled_by pending outcomes_at
 the_last_may_go = refl
 
--- The readings 4294967290 at 1900 s and 104 at 2800 s, and the cancellation of the first reading.
+-- Example events: a reading of 4294967290 counts at 1900 s, a reading of 104 counts at 2800 s, and
+-- the cancellation of the first reading.
 abbrev turned : History
 turned = Fed 4000 (void 2)
     ∷ read 2800 1 (0 ∷ 0 ∷ 0 ∷ 104 ∷ []) (read 1900 0 (255 ∷ 255 ∷ 255 ∷ 250 ∷ []) (house 1000 4294967200 (pos 0) 100000 full_range))

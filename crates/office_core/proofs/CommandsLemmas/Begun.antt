@@ -1,4 +1,5 @@
--- Properties of a command that starts polls on the session (connection) of a device.
+-- Lemmas on an accepted command that starts polls: its device is connected, the device's Modbus
+-- session can start polls, and the next poll number is within its limit.
 use Rattle.std.proofs.Common.{◌≡◌, ℕ, ◌+◌, ◌≤◌, Bool, true, false, not, cond, List, [], ◌∷◌, ◌++◌, map, length, get_or, slice_get, slice_set, zero, suc, refl, sym, ap, subst, ◌∙◌, Option, Some, None, Result, OnOk, IfOk, arith}
 use Rattle.std.specs.List.{find}
 use Rattle.std.specs.Option.{option_and_then}
@@ -34,8 +35,8 @@ use Rattle.office_core.specs.declared.commands.effects.Done.{Done}
 use Rattle.office_core.specs.Commands.Effects.{started_on, slot_obeyed, slots_obeyed, facts_obeyed, Obeys}
 use Rattle.office_core.proofs.CommandsLemmas.Carried.{not_named, if_ok, on_ok}
 
--- True if the command's device is connected, its session can start polls, and the next poll number
--- is at most 2^62 + 1. An accepted command that starts polls has these properties.
+-- True if the command's device is connected, its Modbus session can start polls, and the next poll
+-- number is at most 2^62 + 1. An accepted command that starts polls has these properties.
 pub record IsBegun (past : History) (at : ℕ) (c : Command) : Type 0 where
   pub ready : is_ready (slot_of (slots_of past) (sessions.started_on c)) ≡ true
   pub few : next_poll (facts_of past) ≤ 4611686018427387905
@@ -113,7 +114,7 @@ before_at at (l ∷ slots) zero slot all there = let e : l ≡ slot = cc in subs
 before_at at (l ∷ slots) (suc i) slot all there = before_at at slots i slot all.1 there
 
 -- If a command starts polls, then its poll records, request frames and answer can be computed from
--- the slot of its device alone.
+-- the slot (connection state) of its device alone.
 pub added_there : (number at : ℕ) (slots : List sessions.Slot) (known : List Fact) (c : Command) (slot : sessions.Slot) → is_start c ≡ true
     → slot_of slots (sessions.started_on c) ≡ Some slot → added_by number at slots known c ≡ polls_of number at (spans_by known c) slot
 added_there number at slots known (command.AddDevice c) slot h found = absurd (cc)
@@ -225,8 +226,8 @@ pub found_named : (slots : List sessions.Slot) (given : Option (List ℕ)) (slot
     → is_named given slot.device.name ≡ true
 found_named slots given slot found = find_passes (λ (l : sessions.Slot). is_named given l.device.name) slots slot found
 
--- If all records after a command that starts polls are valid, then the poll records computed from
--- the device's connection are valid.
+-- Suppose that the rules for adding records accept all records after a command that starts polls.
+-- Then they also accept the poll records computed from the device's connection.
 pub polls_lawful : (at : ℕ) (slots : List sessions.Slot) (known : List Fact) (c : Command) (replies : List Fact) (slot : sessions.Slot) → is_start c ≡ true
     → slot_of slots (sessions.started_on c) ≡ Some slot → AreLawful (facts_obeyed at slots known c replies)
     → AreLawful (with_facts (polls_of (next_poll known) at (spans_by known c) slot ++ replies) known)

@@ -49,8 +49,9 @@ fed_is past at (event.Asked asked) c replies is kept =
     ap (λ (fs : List Fact). reverse (added asked.command ++ fs) ++ facts_of past) kept
     ∙ ap (λ (x : Command). reverse (added x ++ replies) ++ facts_of past) same
 
--- If two functions agree on every device slot (device with its connection), they map a list of
--- slots to the same list. Therefore the slots after an event equal the slots after its command.
+-- If two functions have the same result for every device slot (device with its connection), they
+-- map a list of slots to the same list. Therefore a request changes the slots as the command in the
+-- request does.
 map_same : (f g : sessions.Slot → sessions.Slot) → ((slot : sessions.Slot) → f slot ≡ g slot) → (slots : List sessions.Slot) → map f slots ≡ map g slots
 map_same f g h [] = refl
 map_same f g h (slot ∷ slots) = ap (λ l. l ∷ map f slots) (h slot) ∙ ap (λ ls. g slot ∷ ls) (map_same f g h slots)
@@ -103,8 +104,8 @@ pub on_ok : {T : Type 0} (P Q : Type 0) (result : Result T BooksFault) → (P �
 on_ok P Q (Ok x) h p = h p
 on_ok P Q (Err why) h p = tt
 
--- If a command is executed correctly, then the event that requests the command is executed
--- correctly.
+-- If executing a command has the effect that the specification requires, then the event that
+-- requests the command also has its required effect.
 pub carries : (old new : Ledger) (after : List Slot) (past : History) (at : ℕ) (e : Event) (c : Command) (replies : List Fact) (result : Result Done BooksFault)
     → command_in e ≡ Some c → replies_by at e ≡ replies → Obeys old new after (slots_of past) (facts_of past) at c replies result
     → Carries old new after past at e result
@@ -115,7 +116,8 @@ carries old new after past at e c replies result is kept obeys = record {
   sent = λ h clean. if_ok _ _ result (λ done own. own ∙ ap (notes.frames_by (next_poll (facts_of past)) at (slots_of past) (facts_of past)) (sym is)) (obeys.sent h clean);
 }
 
--- If an event that requests a command is accepted, then the records after the command are valid.
+-- If an event that requests a command is accepted, then the rules for adding records accept the
+-- records after the command.
 pub lawful_fed : FactsAreLawful → (past : History) (at : ℕ) (e : Event) (c : Command) (replies : List Fact) → IsPast past → IsAccepted past at e
     → command_in e ≡ Some c → replies_by at e ≡ replies → PutsPlanned (Some c) → AreLawful (facts_obeyed at (slots_of past) (facts_of past) c replies)
 lawful_fed law past at e c replies is_past accepted is kept planned =
@@ -174,8 +176,8 @@ idle_sent slots facts number at c h =
     sym (ap (λ (g : Option (List ℕ)). frames_from number at (spans_by facts c) (slot_of slots g)) (idle_events c h)
     ∙ none_from number at (spans_by facts c) slots)
 
--- If the slots in memory agree with the slots of the events, they still do after both lists get a
--- slot for a new device.
+-- Suppose that the slots (devices with their connections) in memory have the state that follows
+-- from the accepted events. Then this is still true after a slot for a new device is appended.
 keeps_push : (now : List Slot) (kept : List sessions.Slot) (new : Slot) (slot : sessions.Slot) → KeepsSlots now kept → KeepsSlot new slot
     → KeepsSlots (now ++ new ∷ []) (kept ++ slot ∷ [])
 keeps_push [] [] new slot keeps this = (this, tt)
@@ -197,7 +199,7 @@ ok_any P (Ok x) p = p
 ok_any P (Err why) p = tt
 
 -- Suppose that a command starts no polls. If its records are written, and a new device gets a slot
--- for its connection, then the command is executed correctly.
+-- for its connection, then the command has the effect that the specification requires.
 pub obeys_idle : (old new : Ledger) (after : List Slot) (slots more : List sessions.Slot) (known : List Fact) (at : ℕ) (c : Command) (replies : List Fact)
     (result : Result Done BooksFault) → is_start c ≡ false → slots_added (Some c) ≡ more → OnOk result (KeepsSlots after (slots ++ more))
     → Moves old new known (facts_obeyed at slots known c replies) result → IfOk result (λ done. done.answer ≡ answers.Done (kind_of c))

@@ -1,4 +1,5 @@
--- Properties of a write of records to the store that follows lookups in the store.
+-- Proofs that a write of records to the store satisfies the contract `Tries`, which guarantees less
+-- than `Books`, the contract of the write alone. `Tries` also covers a write that follows lookups.
 use Rattle.std.proofs.Common.{◌≡◌, List, [], ◌∷◌, ◌++◌, ◌⊎◌, inl, inr, sym, subst, Result, Ok, Err}
 use Rattle.office_events.specs.declared.facts.Fact.{Fact}
 use Rattle.office_books.specs.Lawful.{AreLawful}
@@ -7,8 +8,8 @@ use Rattle.office_books.specs.Ledgers.{Ledger, Books, Moves, with_facts}
 use Rattle.office_books.proofs.Moving.{passes, settles}
 use Rattle.office_core.specs.Commands.Effects.{Tries}
 
--- The guarantees of a write to the store imply the weaker guarantees of a write that follows
--- lookups.
+-- The guarantees of a write to the store (all records or, on an error, none) imply the weaker
+-- guarantees of a write that follows lookups.
 pub asked : (old new : Ledger) (facts : List Fact) (result : Result (Unit {0}) BooksFault) → Books old new facts result → Tries old new facts result
 asked old new facts (Ok done) books = record {
   booked = books.booked;
@@ -25,8 +26,9 @@ asked old new facts (Err why) books = record {
   goes = passes old new (Err why) books.goes;
 }
 
--- Suppose that a write appends records to the store, and the result is the list of records that the
--- definitions require. Then the write has the guarantees of a change (`Moves`) to this list.
+-- Suppose that a write appends records to the store, and appending them gives the list of records
+-- that the definitions require. Then the write satisfies the contract `Moves` of a change to this
+-- list.
 pub tried : (old new : Ledger) (known later facts : List Fact) (result : Result (Unit {0}) BooksFault) → Tries old new facts result
     → (old.holds known → old.is_clean → with_facts facts known ≡ later) → AreLawful later → Moves old new known later result
 tried old new known later facts (Ok done) tries right lawful =

@@ -43,7 +43,8 @@ books_lost old between new at known polls facts x result reads found is lawful b
       goes = passes_then old between new x result reads.goes (passes between new result books.goes);
     }
 
--- If no poll is pending when the program opens its store, then the store is unchanged.
+-- If no poll is pending (without an outcome) when the program opens its store, then the store is
+-- unchanged.
 pub nothing_lost : (old new : Ledger) (at : ℕ) (known : List Fact) (polls : List Poll) {T : Type 0} (x : T) → Consults old new (Ok x)
     → (old.holds known → new.is_clean → polls ≡ pending_in known) → polls ≡ [] → Moves {T = Unit {0}} old new known (with_lost at known) (Ok tt)
 nothing_lost old new at known polls x reads found none =

@@ -1,4 +1,5 @@
--- Lemmas about the reasons for which the program refuses a command.
+-- Lemmas about the decision whether a command is refused, and why. For example, a command that is
+-- not refused has numbers in range.
 use Rattle.std.proofs.Common.{◌≡◌, ℕ, Bool, true, false, ◌||◌, nat_lt, List, Option, Some, None, Result, Ok, Err, IfOk, is_some, refl, sym, ap, subst, ◌∙◌}
 use Rattle.std.specs.Option.{is_none}
 use Rattle.std.proofs.lemmas.Bool.{ltb-false, or_parts}
@@ -20,8 +21,8 @@ use Rattle.office_core.specs.Sessions.Ranges.{IsInRange}
 use Rattle.office_core.specs.Refusing.Reasons.{arrival_of, request_arrival, speaks_against, refusal_under, IsWhy, IsWhyAmong, Befits}
 use Rattle.office_core.proofs.RefusingLemmas.AtMeters.{same_find, or_false}
 
--- If the reason to refuse a command is correct for every list of devices, then it is correct for
--- the actual devices.
+-- If the decision whether and why to refuse a command agrees with the specification for every list
+-- of devices, then it agrees for the devices in memory.
 pub among : (kept : List Slot) (arrival : Arrival) (c asked : Command) (facts : List Fact) (r : Result (Option Refusal) BooksFault) → asked ≡ c
     → IfOk r (IsWhy arrival c facts) → IfOk r (IsWhyAmong kept arrival asked facts)
 among kept arrival c asked facts (Ok r) is h = λ slots keeps. h slots ∙ ap (refusal_under slots facts arrival) (sym is)
@@ -73,7 +74,7 @@ command_fits latest at c e None is h none = subst (IsInRange latest at) (sym is)
   request = tt;
 })
 
--- If a command is not refused, then its numbers are in range.
+-- If a command is not refused, then its numbers are in the ranges that commands allow.
 pub command_in_range : (latest at : ℕ) (c : Command) (e : Event) (arrival : Arrival) (r : Result (Option Refusal) BooksFault) → e ≡ event.Command c
     → arrival ≡ arrival_of latest at → IfOk r (Befits arrival c) → IfOk r (λ why. why ≡ None → IsInRange latest at e)
 command_in_range latest at c e arrival (Ok why) is so h =

@@ -1,5 +1,5 @@
--- Lemmas about corrections: resets, changes of scale, and other entries that a person makes. A
--- correction is refused if and only if its entry is refused at the latest meter of the accounting
+-- Lemmas about corrections: resets, changes of scale, and other meter entries that a person makes.
+-- A correction is refused if and only if its entry is refused at the latest meter of the accounting
 -- register (a named energy counter).
 use Rattle.std.proofs.Common.{◌≡◌, ℕ, Bool, true, false, cond, ◌||◌, List, [], ◌∷◌, Option, Some, None, is_some, nat_le, length, refl, sym, ap, ◌∙◌}
 use Rattle.std.specs.List.{find}
@@ -26,8 +26,8 @@ use Rattle.office_core.specs.declared.refusing.arrivals.Arrival.{Arrival}
 use Rattle.office_core.specs.Refusing.Entries.{entry_has_fault, is_faulty, speaks_of_entry, entry_refusal}
 use Rattle.office_core.specs.Refusing.Reasons.{speaks_against, refusal_under}
 
--- If two tests agree on all elements, then searches of a list with these tests find the same
--- element.
+-- If two predicates have the same value for all elements of a list, then searches of the list with
+-- these predicates find the same element.
 pub same_find : {X : Type 0} (p q : X → Bool) (xs : List X) → ((x : X) → p x ≡ q x) → find p xs ≡ find q xs
 same_find p q [] h = refl
 same_find p q (x ∷ xs) h =
@@ -57,9 +57,9 @@ faulty_at : (facts : List Fact) (at : ℕ) (c : Command) (row : Installation) (e
 faulty_at facts at c row e why is same =
     sym (ap (makes_fault at why c) (open_found facts (corrected_at c) ∙ ap (option_and_then if_open) (sym is)) ∙ faulty_if at c row e why row.ended same)
 
--- True if the command corrects the meter at its accounting register (a named energy counter) by the
--- given entry. Two Booleans state whether the command's scale is out of range, and whether another
--- number is out of range.
+-- True if the command corrects the latest meter of its accounting register (a named energy counter)
+-- by adding the given meter entry. Two Booleans state whether the command's scale is out of range,
+-- and whether another number is out of range.
 pub record Corrects (slots : List Slot) (facts : List Fact) (at : ℕ) (c : Command) (row : Installation) (e : Entry)
     (off_scale off_limits : Bool) : Type 0 where
   pub unknown : asks_unknown slots facts c ≡ has_no_meter facts (corrected_at c)
@@ -108,7 +108,8 @@ pub refused_as : (slots : List Slot) (facts : List Fact) (arrival : Arrival) (c 
 refused_as slots facts arrival c row e off_scale off_limits is h =
     same_find _ _ reasons (corrects_for slots facts arrival c row e off_scale off_limits is h)
 
--- The given refusal if there is one, otherwise the refusal `Limit` if `crowded` is true.
+-- The given refusal if there is one, otherwise the refusal `Limit` if `crowded` (too many meters)
+-- is true.
 abbrev pub or_limit : (crowded : Bool) → Option Refusal → Option Refusal
 or_limit crowded None = cond crowded (Some refusal.Limit) None
 or_limit crowded (Some why) = Some why
@@ -129,8 +130,9 @@ limited false true faulty = refl
 limited false false true = refl
 limited false false false = refl
 
--- Checking the limit on the number of meters after all other reasons gives the same refusal as
--- checking it together with the other limits. The refusal `Limit` is the last reason.
+-- Checking the limit on the number of meters after all other reasons to refuse an entry gives the
+-- same refusal as checking it together with the other limits. The refusal `Limit` is the last
+-- reason to be checked.
 pub room_last : (arrival : Arrival) (off_scale limits crowded : Bool) (row : Installation) (e : Entry)
     → or_limit crowded (entry_refusal arrival off_scale limits row e) ≡ entry_refusal arrival off_scale (limits || crowded) row e
 room_last arrival off_scale limits false row e =

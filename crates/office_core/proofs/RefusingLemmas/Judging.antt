@@ -26,8 +26,9 @@ use Rattle.office_books.specs.Refusals.{verdict_between, verdict_at, is_held_for
 use Rattle.office_books.specs.Near.{with_energy, ReportsNear}
 use Rattle.office_core.specs.Refusing.Spots.{is_full, IsJudgedAs}
 
--- Suppose that two tests differ only at the cause `TotalFull` (total energy above its limit). If
--- the first search does not find `TotalFull`, then both searches find the same cause.
+-- Suppose that two tests of causes differ only at `TotalFull` (total energy above its limit), which
+-- only the first test accepts. If a search with the first test does not find `TotalFull`, then
+-- searches with both tests find the same cause.
 find_less : (p q : Cause → Bool) → ((c : Cause) → (p c ≡ q c) ⊎ ((c ≡ cause.TotalFull) × (q c ≡ true → p c ≡ true))) → (cs : List Cause) → (find p cs ≡ Some cause.TotalFull → ⊥) → find p cs ≡ find q cs
 find_less p q less [] none = refl
 find_less p q less (c ∷ cs) none = elim (cases_Bool (p c)) [
@@ -86,7 +87,8 @@ module _ (before : Installation) (many : ℕ) (le : before.total ≤ many) where
   following None less = refl
   following (Some next) less = between next.entry less
 
--- If two entries are equal, then voids (cancellations) of the two have the same result.
+-- If two lookups of a meter entry give the same result, then a void (cancellation) of the entry is
+-- judged equally by both results.
 pub judged_itself : (own found : Option EntryContext) → found ≡ own → IsJudgedAs own found
 judged_itself own found is = record { there = ap is_some is; voidable = ap is_not_voidable is; verdict = ap verdict_at is }
 
@@ -104,7 +106,8 @@ by_opening facts place None found is le less = judged_itself None found is
 by_opening facts place (Some o) found is le less =
     by_whole (option_map (place_in facts o) (row_at place (rows_of facts o))) found (installation_of facts o).total is (λ p at. le (installation_of facts o) p refl at) less
 
--- A void (cancellation) of an entry has the same result if it is judged from the nearby rows or
--- from all rows of the meter. The exception is a present total energy that would exceed its limit.
+-- A void (cancellation) of an entry has the same result if it is judged from the entry and its
+-- neighbors or from all rows of the meter. The exception is a present total energy that would
+-- exceed its limit.
 pub judged_near : (facts : List Fact) (meter : List ℕ) (place : ℕ) (found : Option EntryContext) → ReportsNear facts meter place found → is_full found ≡ false → IsJudgedAs (entry_at facts meter place) found
 judged_near facts meter place found reported less = by_opening facts place (opening_of facts meter) found reported.near reported.within less

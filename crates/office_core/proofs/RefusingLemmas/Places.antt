@@ -1,4 +1,5 @@
--- Lemmas about the sequence numbers of a meter's entries.
+-- Lemmas about the sequence numbers of a meter's entries (its readings, resets and so on, in
+-- order).
 use Rattle.std.proofs.Common.{◌≡◌, ℕ, suc, ◌+◌, ◌<◌, ◌≤◌, nat_le, ◌==◌, ◌&&◌, true, false, not, List, [], ◌∷◌, length, refl, sym, ap, subst, ◌∙◌, inl, inr, Option, Some, None, is_some, arith}
 use Rattle.std.specs.Option.{option_map, option_and_then}
 use Rattle.std.proofs.lemmas.Bool.{cond-true, cond-false, cases_Bool, eqb-true, eqb-false, le-leb, lt-leb}
@@ -62,8 +63,8 @@ mapped : {X Y : Type 0} (f : X → Y) (o : Option X) → is_some (option_map f o
 mapped f None = refl
 mapped f (Some x) = refl
 
--- If a sequence number is from 2 to the number of a meter's entry rows plus 1, then an entry row
--- has this number.
+-- If a sequence number is from 2 to the number of a meter's entry rows plus 1, then one of these
+-- rows has this number.
 row_there : (place : ℕ) (rows : List EntryRow) → AreNumbered rows
     → is_some (row_at place rows) ≡ nat_le 2 place && nat_le place (length rows + 1)
 row_there place [] h = grind (arith, nat_tests)
@@ -105,8 +106,8 @@ entry_there_of facts place (Some o) high =
     ∙ row_there place (rows_of facts o) (numbered (opened o) (journal_of facts o.meter))
     ∙ ap (λ b. b && nat_le place (length (rows_of facts o) + 1)) (le-leb 2 place high ∙ sym (le-leb 1 place (omega (arith, high))))
 
--- A sequence number of at least 2 belongs to an entry of the meter if and only if the test
--- `has_place` returns true.
+-- A meter has an entry with a sequence number of at least 2 if and only if the test `has_place` is
+-- true: the number is at most the number of the meter's entries.
 entry_there : (facts : List Fact) (given : Option (List ℕ)) (place : ℕ) → 2 ≤ place
     → is_some (option_and_then (λ m. entry_at facts m place) given) ≡ has_place facts place (option_and_then (opening_of facts) given)
 entry_there facts None place high = refl

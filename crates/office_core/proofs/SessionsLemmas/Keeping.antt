@@ -1,5 +1,5 @@
--- Lemmas that the slots in memory agree with the slots that follow from the accepted events. A slot
--- is a device with its session, the state of its connection.
+-- Lemmas that the slots in memory have the state that follows from the accepted events. A slot is a
+-- device with its session, the state of its connection.
 use Rattle.std.proofs.Common.{◌≡◌, ℕ, zero, suc, ◌+◌, ◌<◌, List, [], ◌∷◌, Bool, true, false, not, cond, Option, Some, None, IfSome, is_some, length, get_or, nat_lt, refl, ap, sym, ◌∙◌, arith}
 use Rattle.std.specs.List.{find, slice_get, position, position_or_len}
 use Rattle.std.specs.Option.{option_and_then}
@@ -57,8 +57,8 @@ pub slot_found : (given : Option (List ℕ)) (kept : List Slot) (slots : List se
 slot_found given kept slots place is keeps =
     position_found (is_of given) slots ∙ ap (option_and_then (slice_get slots)) (sym (is ∙ same_position given kept slots keeps))
 
--- The slot in memory at an index agrees with the slot (device with its session) at the same index
--- that follows from the accepted events.
+-- The slot (a device with its Modbus session) in memory at an index has the state of the slot at
+-- the same index that follows from the accepted events.
 pub keeps_at : (kept : List Slot) (slots : List sessions.Slot) (i : ℕ) (d : Slot) → KeepsSlots kept slots → i < length kept
     → (slot : sessions.Slot) × (slice_get slots i ≡ Some slot) × KeepsSlot (get_or kept i d) slot
 keeps_at [] slots i d keeps inside = absurd (omega arith)
@@ -91,7 +91,8 @@ some_present device None (Some events) keeps = absurd keeps
 some_present device (Some k) None keeps = absurd keeps
 some_present device (Some k) (Some events) keeps = refl
 
--- A device is connected if and only if its slot in memory has a Modbus session.
+-- A device is connected if and only if its slot (the state of its connection) in memory has a
+-- Modbus session.
 pub present_slot : (given : Option (List ℕ)) (kept : List Slot) (slots : List sessions.Slot) (i : ℕ) (d : Slot) (b : Bool)
     → b ≡ is_some (get_or kept i d).session → i < length kept → sessions.slot_of slots given ≡ slice_get slots i → KeepsSlots kept slots
     → b ≡ is_some (sessions.present_of slots given)

@@ -35,7 +35,7 @@ before_later : (at later : ℕ) → at ≤ later → (slots : List sessions.Slot
 before_later at later h [] all = tt
 before_later at later h (slot ∷ slots) all = (one_later at later h slot.present all.0, before_later at later h slots all.1)
 
--- True if all of these Modbus session events have the given timestamp.
+-- True if all Modbus session events of the list have the given timestamp.
 abbrev AtMoment : ℕ → List session.Event → Type 0
 AtMoment at [] = Unit {0}
 AtMoment at (happening ∷ later) = (session.moment_of happening ≡ at) × AtMoment at later

@@ -35,8 +35,8 @@ use Rattle.office_core.specs.Settling.Drafts.{so_far, HasMore, IsReported, AreRe
 use Rattle.office_core.proofs.SettlingLemmas.Reported.{SkipsReported, reported_skipped, reported_last}
 use Rattle.office_core.proofs.SettlingLemmas.ReadRegisters.{with_read, reported_read}
 
--- States that, if the records with an addition are valid (`AreLawful`), then the records before the
--- addition are valid.
+-- States of a function that adds records to a list: if the longer list of records is lawful (the
+-- rules for adding records accept each one), then the list before the addition is lawful.
 abbrev pub KeepsLawful : (List Fact → List Fact) → Type 0
 KeepsLawful more = (facts : List Fact) → AreLawful (more facts) → AreLawful facts
 
@@ -82,8 +82,8 @@ before_outcomes at (settled ∷ later) facts h = before_outcome at settled facts
 pub stays : (holds : List Fact → Type 0) (clean : Type 0) (draft : PendingWrite) → Grows holds clean draft draft (λ facts. facts) (λ facts. [])
 stays holds clean draft = λ recorded h c reported lawful. record { facts = refl; notes = sym (append-nil draft.notes.items); reported = reported }
 
--- An addition of records and notifications to a pending write (records not yet stored) may be
--- replaced by an equal addition.
+-- If a pending write (records not yet stored) grew by the records and notifications of two
+-- functions, then it also grew by those of two functions with equal results.
 pub grows_like : (holds : List Fact → Type 0) (clean : Type 0) (old new : PendingWrite) (f g : List Fact → List Fact) (n m : List Fact → List Note)
     → ((facts : List Fact) → g facts ≡ f facts) → ((facts : List Fact) → m facts ≡ n facts) → Grows holds clean old new f n → Grows holds clean old new g m
 grows_like holds clean old new f g n m same_facts same_notes on = λ recorded h c reported lawful.
@@ -126,8 +126,9 @@ reported_reading : (meter : List ℕ) (poll : ℕ) (reading : Reading) (verdict 
 reported_reading meter poll reading (Accepted rolls step) = refl
 reported_reading meter poll reading (Held cause) = tt
 
--- If a read covers an accounting register with an open meter, then the meter's reading adds one
--- record and one notification. Both are added to the pending write (records not yet stored).
+-- If a read covers an accounting register (a named energy counter) with an open meter, then the
+-- meter's reading adds one record and one notification for the program's caller. Both are added to
+-- the pending write (records not yet stored).
 pub read_at : (holds : List Fact → Type 0) (clean : Type 0) (at : ℕ) (poll : Poll) (words : List ℕ) (register : Register) (old new : PendingWrite) (row : Installation)
     → is_read_by poll.span register ≡ true
     → ((recorded : List Fact) → holds recorded → clean → AreReported old.facts.items → AreLawful (so_far old recorded) → Some row ≡ open_at (so_far old recorded) register.name)
@@ -164,8 +165,8 @@ no_meter_at holds clean at poll words register draft read found = λ recorded h 
     ap (λ o. option_to_list (option_map (reading_note reading) o)) there ∙ sym (cond-true _ _ _ read) in
     record { facts = is; notes = sym (append-nil draft.notes.items) ∙ ap (λ xs. draft.notes.items ++ xs) reported_so; reported = reported }
 
--- The records for the readings of several accounting registers are those of the earlier registers,
--- followed by the record of the last register.
+-- The records for the readings of several accounting registers (named energy counters) are those of
+-- the earlier registers, followed by the record of the last register.
 pub registers-more : (at : ℕ) (poll : Poll) (words : List ℕ) (xs : List Register) (y : Register) (facts : List Fact)
     → with_registers at poll words (xs ++ y ∷ []) facts ≡ with_register at poll words y (with_registers at poll words xs facts)
 registers-more at poll words [] y facts = refl
@@ -194,7 +195,7 @@ one_register_more holds mid clean later old between new at poll words rs i r les
     (registers_notes at poll words (take i rs)) (register_notes at poll words r) kept cleaner (before_register at poll words r) first second)
 
 -- A record of a poll's outcome or of a reading is not the record of a started poll or of an
--- accounting register.
+-- accounting register (a named energy counter).
 no_poll : SkipsReported as_poll
 no_poll (fact.Device device) reported = absurd reported
 no_poll (fact.List put) reported = absurd reported

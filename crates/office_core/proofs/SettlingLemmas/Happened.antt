@@ -1,5 +1,5 @@
--- Properties of the records and of the device slots (connections) after a device event, such as a
--- response or a timeout.
+-- Lemmas: after a device event, such as a response or a timeout, the new records, the notifications
+-- and the device slots (connection states) are those that the specification gives.
 use Rattle.std.proofs.Common.{◌≡◌, ℕ, List, [], ◌∷◌, ◌++◌, map, reverse, refl, sym, ap, subst, ◌∙◌, Option, Some, None}
 use Rattle.std.proofs.lemmas.List.{append-nil}
 use Rattle.poll_core.specs.Settling as session
@@ -87,7 +87,8 @@ puts_nothing (event.Gone given closing) s = tt
 puts_nothing (event.Command c) s = absurd s
 puts_nothing (event.Asked asked) s = absurd s
 
--- If a device event is accepted, then the records after this event are valid (`AreLawful`).
+-- If a device event is accepted, then the records after this event are lawful (the rules for adding
+-- records accept each one).
 lawful_next : FactsAreLawful → (past : History) (slots : List Slot) (at : ℕ) (e : Event) → IsSettling e → IsNext past slots at e
     → AreLawful (facts_of (Fed at e ∷ past))
 lawful_next law past slots at e s next =
@@ -95,7 +96,7 @@ lawful_next law past slots at e s next =
     (puts_nothing e s, next.is_past.planned)
 
 -- True if the pending write (records not yet stored) has exactly the records and notifications that
--- are defined for the device event.
+-- the specification gives for the device event.
 pub record DraftStands (past : History) (at : ℕ) (e : Event) (draft : PendingWrite) : Type 0 where
   pub facts : so_far draft (facts_of past) ≡ facts_of (Fed at e ∷ past)
   pub notes : draft.notes.items ≡ notes_of (next_poll (facts_of past)) at e (slots_of past) (facts_of past)

@@ -16,8 +16,9 @@ kept_before at (k ∷ kept) [] keeps all = absurd keeps
 kept_before at (k ∷ kept) (slot ∷ slots) keeps all =
     (record { keeps = keeps.0; before = all.0 }, kept_before at kept slots keeps.1 all.1)
 
--- If an event is accepted next, then each slot in memory has its device and the session that
--- follows from the earlier events. No event of the session is later than the accepted event.
+-- If an event is accepted next, then each slot (a device with its connection) in memory has its
+-- device and the session that follows from the earlier events. No event of the session is later
+-- than the accepted event.
 pub reaches_all : (past : History) (kept : List Slot) (at : ℕ) (e : Event) → IsNext past kept at e → MayReachAll at kept (slots_of past)
 reaches_all past kept at e next =
     kept_before at kept (slots_of past) next.keeps (before_event past at e next.is_past.accepted next.accepted)

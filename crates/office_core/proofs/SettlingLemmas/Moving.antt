@@ -1,4 +1,5 @@
--- Properties of the store after the records of a device event are written.
+-- Lemmas on writing the records of a device event to the store. Written records follow the earlier
+-- ones; if processing the event fails, the records are unchanged.
 use Rattle.std.proofs.Common.{◌≡◌, ◌⊎◌, ℕ, List, [], ◌∷◌, ◌++◌, refl, sym, ap, subst, inr, Result, Ok, Err}
 use Rattle.std.specs.Prelude.{OnOk, OnErr}
 use Rattle.std.specs.Result.{IsErrAnd}
@@ -28,12 +29,12 @@ moves_nothing old facts known none =
     }
 
 -- True if the store's records, followed by the new records `facts`, equal the records `later` and
--- are valid (`AreLawful`).
+-- are lawful (the rules for adding records accept each one).
 abbrev pub Leads : Ledger → (clean : Type 0) → (facts known later : List Fact) → Type 0
 Leads old clean facts known later = old.holds known → clean → (with_facts facts known ≡ later) × AreLawful (with_facts facts known)
 
--- If records are written after lookups in the store, then the write satisfies the guarantees of a
--- change of the store's records.
+-- If lookups in the store precede a write of records, then the lookups and the write together
+-- satisfy the guarantees of the write (`Moves`).
 pub moves_after : {T U : Type 0} (old mid new : Ledger) (facts known later : List Fact) (x : T) (r : Result U BooksFault)
     → Consults old mid (Ok x) → Leads old mid.is_clean facts known later
     → (AreLawful (with_facts facts known) → Moves mid new known (with_facts facts known) r)

@@ -31,7 +31,8 @@ use Rattle.office_core.specs.Settling.Drafts.{IsReported, AreReported}
 use Rattle.office_core.specs.Settling.Following.{with_result, with_entry, installation_with, IsIn, IsAfterFacts}
 use Rattle.office_core.proofs.SettlingLemmas.Reported.{reported_openings, reported_first, reported_at, lawful_first}
 
--- The theorems about meter entries that the proofs below use.
+-- The theorems about meter entries that the proofs about pending writes (records not yet stored)
+-- use.
 pub record Laws : Type 0 where
   pub names : NamesAreDistinct
   pub kept : MetersAreKept
@@ -90,8 +91,9 @@ known_goes_on o lines line true rows ended =
     ap (λ rs. standing o (journal.entries_in rs) (journal.is_ended lines)) (sym rows)
     ∙ ap (λ e. standing o (journal.entries_of (opened o) (line ∷ lines)) e) (sym ended)
 
--- If a poll's outcome or a reading is added, then the state of an installed meter changes as the
--- accounting rules define.
+-- Suppose that a poll's outcome or a reading is added to the records. Then the state of an
+-- installed meter before it, changed by this record alone, equals the state computed from all
+-- records.
 pub goes_on : Laws → (f : Fact) (facts : List Fact) (o : Opening) → IsReported f → AreLawful (f ∷ facts) → IsRecorded facts o
     → (installation_of facts o).last.raw < o.range → installation_with f (installation_of facts o) ≡ installation_of (f ∷ facts) o
 goes_on laws (fact.Device device) facts o reported h recorded low = absurd reported
@@ -107,8 +109,8 @@ goes_on laws (fact.Poll poll) facts o reported h recorded low = absurd reported
 goes_on laws (fact.Outcome ended) facts o reported h recorded low = refl
 goes_on laws (fact.Reply reply) facts o reported h recorded low = absurd reported
 
--- True if the second state is the state of the meter after the given number of records of a pending
--- write (records not yet stored).
+-- True if the second installation is the state of the first one's meter after the first `i` records
+-- of a pending write (records not yet stored).
 abbrev pub StandsAfterFirst : Installation → List Fact → ℕ → Installation → Type 0
 StandsAfterFirst row facts i following = (known : List Fact) → AreReported facts → AreLawful (reverse facts ++ known)
     → IsIn known row → following ≡ installation_of (reverse (take i facts) ++ known) row.opening
@@ -164,8 +166,8 @@ none_open facts known register reported none =
     none_by None h = refl
     none_by (Some opening) h = absurd (cc)
 
--- After a pending write, the state of an accounting register's open meter is its state in the
--- store, advanced by the pending records.
+-- After a pending write, the state of an accounting register's open meter
+-- is its state in the store, advanced by the pending records.
 found_open : (facts known : List Fact) (register : List ℕ) (row new : Installation) (found : Option Opening) → AreReported facts → AreLawful (reverse facts ++ known)
     → IsAfterFacts row facts new → installed_at known register ≡ found → Some row ≡ option_map (installation_of known) found
     → if_open new ≡ open_at (reverse facts ++ known) register

@@ -1,5 +1,5 @@
--- Proof that a Modbus read adds no records for an accounting register (a named energy counter) that
--- it does not cover.
+-- Proof that the response to a Modbus read adds no records for an accounting register (a named
+-- energy counter) whose Modbus registers the read does not cover.
 use Rattle.std.proofs.Common.{◌≡◌, ℕ, List, [], ◌∷◌, ◌++◌, inl, inr, refl, sym, ap, ◌∙◌}
 use Rattle.std.specs.List.{filter}
 use Rattle.std.proofs.lemmas.Bool.{cases_Bool, cond-true, cond-false}
@@ -10,8 +10,8 @@ use Rattle.office_events.specs.declared.answers.Note.{Note}
 use Rattle.office_books.specs.Readings.{is_read_by, with_register, with_registers}
 use Rattle.office_books.specs.Notes.{register_notes, registers_notes}
 
--- The readings in a response, over all accounting registers of the device, equal the readings of
--- the registers that the read covers.
+-- The readings in a response, over all accounting registers (named energy counters) of the device,
+-- equal the readings of the registers that the read covers.
 pub with_read : (at : ℕ) (poll : Poll) (words : List ℕ) (registers : List Register) (facts : List Fact)
     → with_registers at poll words (filter (is_read_by poll.span) registers) facts ≡ with_registers at poll words registers facts
 with_read at poll words [] facts = refl
@@ -27,8 +27,8 @@ with_read at poll words (r ∷ rs) facts =
           ∙ ap (λ (fs : List Fact). with_registers at poll words rs fs) (sym unread)
     ]
 
--- The notifications for a response, over all accounting registers of the device, equal the
--- notifications for the registers that the read covers.
+-- The notifications for a response, over all accounting registers (named energy counters) of the
+-- device, equal the notifications for the registers that the read covers.
 pub reported_read : (at : ℕ) (poll : Poll) (words : List ℕ) (registers : List Register) (facts : List Fact)
     → registers_notes at poll words (filter (is_read_by poll.span) registers) facts ≡ registers_notes at poll words registers facts
 reported_read at poll words [] facts = refl

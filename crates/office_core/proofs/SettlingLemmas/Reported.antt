@@ -1,4 +1,5 @@
--- Properties of lookups in lists of records that contain only outcomes of polls and readings.
+-- Lemmas: a lookup that finds nothing in the outcomes of polls and readings returns the same result
+-- before and after such records are added.
 use Rattle.std.proofs.Common.{◌≡◌, ℕ, ◌<◌, length, get_or, arith, List, [], ◌∷◌, ◌++◌, reverse, take, drop, refl, ap, subst, sym, ◌∙◌, Option, None, append_assoc, zero, suc}
 use Rattle.std.specs.List.{cons_option, filter_map}
 use Rattle.std.proofs.lemmas.List.{reverse-append, take-append-drop}
@@ -8,7 +9,8 @@ use Rattle.office_books.specs.Facts.{as_opening, openings_in}
 use Rattle.office_books.specs.Lawful.{AreLawful}
 use Rattle.office_core.specs.Settling.Drafts.{IsReported, AreReported}
 
--- True if the lookup finds nothing in the record of any poll outcome or reading.
+-- True if a lookup (a function from a record to an optional value) returns None for every record of
+-- a poll's outcome or of a reading.
 abbrev pub SkipsReported : {X : Type 0} → (Fact → Option X) → Type 0
 SkipsReported f = (x : Fact) → IsReported x → f x ≡ None
 
@@ -51,13 +53,14 @@ pub reported_last : (facts : List Fact) (x : Fact) → AreReported facts → IsR
 reported_last [] x reported is = (is, tt)
 reported_last (f ∷ facts) x reported is = (reported.0, reported_last facts x reported.1 is)
 
--- If all records of a list are valid (`AreLawful`), then its earlier records alone are valid.
+-- If all records of a list are lawful (the rules for adding records accept each one), then its
+-- earlier records alone are lawful.
 pub lawful_before : (new facts : List Fact) → AreLawful (new ++ facts) → AreLawful facts
 lawful_before [] facts h = h
 lawful_before (x ∷ new) facts h = lawful_before new facts h.1
 
--- If all records of a pending write (records not yet stored) are valid, then its first `i` records
--- are valid.
+-- If the rules for adding records accept all records of a pending write (records not yet stored),
+-- then they accept its first `i` records.
 pub lawful_first : (facts known : List Fact) (i : ℕ) → AreLawful (reverse facts ++ known) → AreLawful (reverse (take i facts) ++ known)
 lawful_first facts known i lawful =
     lawful_before (reverse (drop i facts)) (reverse (take i facts) ++ known)

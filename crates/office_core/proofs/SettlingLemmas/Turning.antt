@@ -62,8 +62,8 @@ longer_is_some : {X : Type 0} (xs : List X) (x : X) → xs ++ x ∷ [] ≡ [] �
 longer_is_some [] x h = cc
 longer_is_some (y ∷ xs) x h = cc
 
--- After the loop finds one more outcome of a poll, the pending write (records not yet stored) also
--- has this outcome.
+-- After the loop over the poll outcomes of an event finds one more outcome, the pending write
+-- (records not yet stored) also has this outcome.
 pub turns : (holds mid : List Fact → Type 0) (clean later unchanged changed : Type 0) (old between new : State) (before after : Event) (call : Call)
     (first draft next : PendingWrite) (o : ℕ × Settlement) → Turned holds clean unchanged old between before call first draft
     → moment_of after ≡ moment_of before → new.settling ≡ Some call → new.last ≡ moment_of after → Called between new before after (Some o)
@@ -87,8 +87,8 @@ turns holds mid clean later unchanged changed old between new before after call 
   quiet = λ none. absurd (longer_is_some t.reported o none);
 }
 
--- After the loop ends, the pending write (records not yet stored) has all poll outcomes of the
--- event.
+-- After the loop over the poll outcomes of an event ends, the pending write (records not yet
+-- stored) has all poll outcomes of the event.
 pub ends : (holds : List Fact → Type 0) (clean unchanged : Type 0) (old between new : State) (before after : Event) (call : Call) (first draft : PendingWrite)
     → Turned holds clean unchanged old between before call first draft → moment_of after ≡ moment_of before → Called between new before after None
     → ReportsSettled holds clean old new after first draft
@@ -113,7 +113,7 @@ ends_quietly holds clean unchanged old between new before after call first draft
     ∙ ap (λ n. outcomes_at n none.events after) (called.timeout ∙ t.timeout) ∙ none.nothing)
 
 -- If a call of the Modbus session for an event returned a poll's outcome, then the event is of a
--- kind that can end polls.
+-- kind that can end polls (such as received bytes).
 pub is_loud : {P : Type 0} (holds : List Fact → Type 0) (clean unchanged : Type 0) (old between new : State) (before after : Event) (call : Call) (first draft : PendingWrite)
     (o : ℕ × Settlement) → Turned holds clean unchanged old between before call first draft → Called between new before after (Some o) → SettlesNothing old after → P
 is_loud holds clean unchanged old between new before after call first draft o t called none =

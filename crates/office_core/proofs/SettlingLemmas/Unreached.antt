@@ -1,4 +1,5 @@
--- Properties of a slot (a device with its connection) when a device event concerns another device.
+-- Lemmas: a device event leaves the slots (the connection states) of all other devices unchanged,
+-- and adds no records for these devices.
 use Rattle.std.proofs.Common.{◌≡◌, ℕ, Bool, true, false, List, [], ◌∷◌, Option, Some, None, is_some, refl, sym, ap, subst, ◌∙◌}
 use Rattle.poll_core.specs.Settling as session
 use Rattle.office_events.specs.declared.facts.Device.{Device}

@@ -1,4 +1,5 @@
--- Properties of the 16-bit register values in a Modbus response.
+-- Lemma about a Modbus response: the register value at an index is the same in two lookups, and is
+-- 0 if the response has no value at that index.
 use Rattle.std.proofs.Common.{◌≡◌, ℕ, get_or, refl}
 use Rattle.std.specs.Option.{unwrap_or}
 use Rattle.std.proofs.lemmas.Option.{unwrap_or-slice_get}

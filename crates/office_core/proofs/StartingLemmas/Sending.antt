@@ -1,5 +1,6 @@
--- Properties of the Modbus reads that are started one by one on a session, the connection of a
--- device.
+-- Lemmas on Modbus reads that are started one after another on a session (the connection of a
+-- device). They give how many reads can start, and the session's state, frames and records after
+-- each start.
 use Rattle.std.proofs.Common.{◌≡◌, ℕ, suc, ◌+◌, ◌*◌, ◌%◌, ◌≤◌, ◌<◌, min, Bool, true, false, List, [], ◌∷◌, ◌++◌, map, length, take, drop, get_or, refl, sym, ap, subst, ◌∙◌, inl, inr, if◌then◌else◌, Option, Some, None, append_assoc, arith, is_none, nat_lt}
 use Rattle.std.proofs.Math.Seq.{drop-cons}
 use Rattle.std.proofs.lemmas.Bool.{le-ltb}
@@ -44,8 +45,8 @@ ready_on device kept events id count keeps ready =
     subst (λ t. IsReady t device.window events id count) keeps.timeout
     (subst (λ w. IsReady kept.timeout w events id count) keeps.window ready)
 
--- The state after the first `i` of the reads that a session can start. The reads that the session
--- can start are these `i` reads, followed by the reads that it can start next.
+-- The state after the first `i` of the reads that a Modbus session can start. The reads that the
+-- session can start are these `i` reads, followed by the reads that it can start next.
 pub record SoFar (number at : ℕ) (device : Device) (events : List session.Event) (spans : List ReadSpan) (i : ℕ) : Type 0 where
   pub made : List Send
   pub long : length made ≡ i
@@ -90,8 +91,8 @@ starts_further at device events made send =
     append_assoc events (map (start_by at device) made) (start_by at device send ∷ [])
     ∙ ap (λ (es : List session.Event). events ++ es) (sym (map-append (start_by at device) made (send ∷ [])))
 
--- True if the Modbus session can start one more read after `i` reads. The record also has the state
--- after this read is started.
+-- True if the Modbus session can start one more read after `i` reads. Also states that the
+-- guarantees for the first `i + 1` reads hold.
 pub record Further (number at : ℕ) (device : Device) (events : List session.Event) (spans : List ReadSpan) (i : ℕ) (made : List Send) (span : ReadSpan) : Type 0 where
   pub can : is_startable device (Some (events ++ map (start_by at device) made)) ≡ true
   pub so_far : SoFar number at device events spans (i + 1)
@@ -154,8 +155,8 @@ id_after at device events made send id next is goes =
     ∙ sym (next_id-start (events ++ map (start_by at device) made) at send.number device.unit (span_view send.span))
     ∙ ap session.next_id (starts_further at device events made send)
 
--- The reason why a session cannot start a poll, or `None`. If a start is allowed at the session's
--- latest timestamp, then it is allowed at each later timestamp.
+-- The reason why a Modbus session cannot start a poll, or `None`. If a start is allowed at the
+-- session's latest timestamp, then it is allowed at each later timestamp.
 abbrev fault_by : (full busy back over : Bool) → Option StartFault
 fault_by full busy back over =
     if full then Some WindowFull else if busy then Some IdBusy else if back then Some ClockBack else if over then Some Closed else None
@@ -221,8 +222,8 @@ pub room_after : (i len : ℕ) (out bytes more : List ℕ) → length out ≤ i 
 room_after i len out bytes more room size long is =
     omega (arith, room, size, ap length is, length-append out (take len bytes), length-take-le len bytes (omega (arith, size, long)))
 
--- After reads are started on a device slot's Modbus session, the events of the session include
--- these reads.
+-- If reads are started on the Modbus session of a device, then the session's events include the
+-- starts of these reads.
 sent_events : (at : ℕ) (slot : sessions.Slot) (before : List session.Event) (sends : List Send)
     → with_happenings slot before (map (start_by at slot.device) sends)
     ≡ record { device = slot.device; ended = slot.ended; present = Some (before ++ map (start_by at slot.device) sends) }

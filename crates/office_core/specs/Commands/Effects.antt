@@ -36,9 +36,9 @@ abbrev pub replies_by : (at : ℕ) → Event → List Fact
 replies_by at (event.Asked asked) = reply_by at asked
 replies_by at _ = []
 
--- The guarantees of writing records to the store, if the resulting records are valid (`AreLawful`).
--- On `Ok` the store has all of the records. On an error the store has none of them, but after a
--- crash it may have all of them.
+-- The guarantees of writing records to the store, if the resulting records are lawful (the rules
+-- for adding records accept each one). On `Ok` the store has all of the records. On an error the
+-- store has none of them, but after a crash it may have all of them.
 pub record Tries (old new : Ledger) (facts : List Fact)
     (result : Result (Unit {0}) BooksFault) : Type 0 where
   pub booked : (known : List Fact) → old.holds known → AreLawful (with_facts facts known)
@@ -55,8 +55,8 @@ pub record Tries (old new : Ledger) (facts : List Fact)
       → OnErr result (new.may_leave left ⊎ new.may_leave (left ++ with_facts facts known ∷ []))
   pub goes : LedgerAfterCalls old new result
 
--- The device's slot after the command's reads are started on its session (connection). A slot
--- without a session is unchanged.
+-- The device's slot (the device with its connection) after the command's reads are started on its
+-- session. A slot without a session is unchanged.
 abbrev pub started_on : (number at : ℕ) → List ReadSpan → Command → sessions.Slot
     → Option (List session.Event) → sessions.Slot
 started_on number at spans c slot None = slot
@@ -68,8 +68,8 @@ started_on number at spans c slot (Some before) =
 abbrev pub slot_obeyed : (number at : ℕ) → List ReadSpan → Command → sessions.Slot → sessions.Slot
 slot_obeyed number at spans c slot = started_on number at spans c slot slot.present
 
--- All device slots (devices with their sessions) after a command. If the command adds a device, the
--- slot of this device is the last.
+-- All device slots (devices with their Modbus sessions) after a command. If the command adds a
+-- device, the slot of this device is the last.
 abbrev pub slots_obeyed : (number at : ℕ) → List ReadSpan → Command → List sessions.Slot
     → List sessions.Slot
 slots_obeyed number at spans c slots =
@@ -81,8 +81,8 @@ abbrev pub facts_obeyed : (at : ℕ) → List sessions.Slot → List Fact → Co
 facts_obeyed at slots known c replies =
     with_facts (added_by (next_poll known) at slots known c ++ replies) known
 
--- States that, if the records after a command are valid (`AreLawful`), executing the command
--- changes the store from its earlier records to these records.
+-- States that, if the rules for adding records accept the records after a command, executing the
+-- command changes the store from its earlier records to these records.
 abbrev pub MovesOnBy : {T : Type 0} → (at : ℕ) → Command → (replies : List Fact)
     → (old new : Ledger) → Result T BooksFault → Type 0
 MovesOnBy at c replies old new result =
@@ -91,7 +91,8 @@ MovesOnBy at c replies old new result =
     AreLawful later → Moves old new known later result
 
 -- The guarantees of executing a command. The command's records are written, its reads are started,
--- its request frames are returned to be sent, and its answer is correct.
+-- its request frames are returned to be sent, and its answer is the one that the specification
+-- gives.
 pub record Obeys (old new : Ledger) (after : List Slot) (slots : List sessions.Slot)
     (known : List Fact) (at : ℕ) (c : Command)
     (replies : List Fact) (result : Result Done BooksFault) : Type 0 where
@@ -106,7 +107,8 @@ pub record Obeys (old new : Ledger) (after : List Slot) (slots : List sessions.S
       done.outgoing ≡ notes.frames_by (next_poll known) at slots known (Some c))
 
 -- The guarantees of executing an accepted event that requests a command. The records are written,
--- the reads are started, the request frames are returned to be sent, and the answer is correct.
+-- the reads are started, the request frames are returned to be sent, and the answer is the one that
+-- the specification gives.
 pub record Carries (old new : Ledger) (after : List Slot) (past : History) (at : ℕ) (e : Event)
     (result : Result Done BooksFault) : Type 0 where
   pub books : Moves old new (facts_of past) (facts_of (Fed at e ∷ past)) result
@@ -118,8 +120,9 @@ pub record Carries (old new : Ledger) (after : List Slot) (past : History) (at :
       → IfOk result (λ done.
       done.outgoing ≡ outgoing_of (next_poll (facts_of past)) at e (slots_of past) (facts_of past))
 
--- True if every accepted event that requests this command, with this stored answer, is executed
--- correctly. `before` are the devices with their connections before the event.
+-- True if each accepted event that requests the command `c`, with the stored answer `replies`, has
+-- the effect that `Carries` states. `before` are the devices with their connections before the
+-- event.
 abbrev pub CarriesOut : (old new : Ledger) → (before after : List Slot) → (at : ℕ) → Command
     → (replies : List Fact) → Result Done BooksFault → Type 0
 CarriesOut old new before after at c replies result =
@@ -127,24 +130,26 @@ CarriesOut old new before after at c replies result =
     → IsAccepted past at e → command_in e ≡ Some c → replies_by at e ≡ replies
     → Carries old new after past at e result
 
--- True if this event is executed correctly after every history that accepts the event and leads to
--- `before`, the devices with their connections.
+-- True if the given event has its required effect (`Carries`) after every history that accepts the
+-- event and leads to `before`, the devices with their connections.
 abbrev pub CarriesEvent : (old new : Ledger) → (before after : List Slot) → (at : ℕ) → Event
     → Result Done BooksFault → Type 0
 CarriesEvent old new before after at e result =
     (past : History) → IsPast past → KeepsSlots before (slots_of past) → IsAccepted past at e
     → Carries old new after past at e result
 
--- The reads that the command starts on the Modbus session of the device slot.
+-- The Modbus reads that the command starts on the session of the device slot (a device with its
+-- connection).
 abbrev pub sends_by : (at : ℕ) → sessions.Slot → List Fact → Command → List sessions.Send
 sends_by at slot known c = starts.sends_of (next_poll known) at (spans_by known c) slot
 
--- The poll records of the reads that the command starts on the Modbus session of the device slot.
+-- The poll records of the Modbus reads that the command starts on the session of the device slot (a
+-- device with its connection).
 abbrev pub polls_by : (at : ℕ) → sessions.Slot → List Fact → Command → List Fact
 polls_by at slot known c = starts.polls_of (next_poll known) at (spans_by known c) slot
 
--- The bytes of the request frames for the reads that the command starts on the Modbus session of
--- the device slot.
+-- The bytes of the request frames for the Modbus reads that the command starts on the session of
+-- the device slot (a device with its connection).
 abbrev pub frames_by : (at : ℕ) → sessions.Slot → List Fact → Command → List ℕ
 frames_by at slot known c = starts.frames_of (next_poll known) at (spans_by known c) slot
 
@@ -159,8 +164,9 @@ abbrev pub facts_started : (at : ℕ) → sessions.Slot → List Fact → Comman
     → List Fact
 facts_started at slot known c replies = with_facts (polls_by at slot known c ++ replies) known
 
--- States that a property holds for every device slot (device with its session) that agrees with the
--- slot `kept` in memory. It states nothing if the number of recorded polls exceeds its limit.
+-- States that a property holds for every device slot (a device with its Modbus sessions) whose
+-- state the slot `kept` in memory has. It states nothing if the number of recorded polls exceeds
+-- its limit.
 abbrev pub WhereStarted : (kept : Slot) → (sessions.Slot → List Fact → Type 0) → Type 0
 WhereStarted kept so = (slot : sessions.Slot) (known : List Fact) → KeepsSlot kept slot
     → next_poll known ≤ MAX_POLLS + 1 → so slot known
@@ -171,24 +177,24 @@ abbrev pub start_answer : (at : ℕ) → sessions.Slot → List Fact → Command
 start_answer at slot known c =
     answer.Started (next_poll known) (length (sends_by at slot known c)) (reads_in_all known c)
 
--- States that, if the resulting records are valid (`AreLawful`), a command that starts polls writes
--- its poll records and the stored answer to its request.
+-- States that, if the rules for adding records accept the resulting records, a command that starts
+-- polls writes its poll records and the stored answer to its request.
 abbrev pub BooksStart : (at : ℕ) → Command → (replies : List Fact) → (old new : Ledger)
     → Result Done BooksFault → sessions.Slot → (known : List Fact) → Type 0
 BooksStart at c replies old new result slot known =
     let later = facts_started at slot known c replies in
     AreLawful later → Moves old new known later result
 
--- States that, if the command succeeds, the Modbus session of the device slot then has the polls
--- that the command started.
+-- States that, if the command succeeds, the Modbus session of the device slot (a device with its
+-- connection) then has the polls that the command started.
 abbrev pub StandsStarted : (at : ℕ) → Command → (old new : Ledger) → (after : Slot)
     → Result Done BooksFault → sessions.Slot → (known : List Fact) → Type 0
 StandsStarted at c old new after result slot known =
     starts.IsBefore at slot → old.holds known → new.is_clean
     → OnOk result (KeepsSlot after (slot_by at slot known c))
 
--- States that, if a command to start polls succeeds, its answer has the correct poll number and
--- counts.
+-- States that, if a command to start polls succeeds, its answer states the number of its first
+-- poll, how many polls were started, and how many reads were requested.
 abbrev pub AnswersStart : (at : ℕ) → Command → (old new : Ledger)
     → Result Done BooksFault → sessions.Slot → (known : List Fact) → Type 0
 AnswersStart at c old new result slot known =

@@ -26,8 +26,8 @@ pub record MayOpen (past : History) (at : ℕ) : Type 0 where
   pub accepted : opening_refusal_of (facts_of past) at ≡ None
 
 -- The guarantees of an opening of the store (program start). On `Ok` all pending polls are recorded
--- as lost, and each device has a slot without a Modbus session. On an error the records are
--- unchanged.
+-- as lost, and each device has a slot (connection state) without a Modbus session. On an error the
+-- records are unchanged.
 pub record Opens (past : History) (at : ℕ) (old new : Ledger)
     (result : Result (Vec Slot Global) BooksFault) : Type 0 where
   pub books : Moves old new (facts_of past) (facts_of (Opened at ∷ past)) result
@@ -35,7 +35,7 @@ pub record Opens (past : History) (at : ℕ) (old new : Ledger)
       → IfOk result (λ slots. KeepsSlots slots.items (slots_of (Opened at ∷ past)))
 
 -- True for the two reasons to refuse an opening of the store. The opening's timestamp is before the
--- latest record's timestamp, or above the limit.
+-- latest record's timestamp, or above the greatest allowed timestamp.
 abbrev pub IsOfOpening : Refusal → Type 0
 IsOfOpening refusal.ClockBack = Unit {0}
 IsOfOpening refusal.Limit = Unit {0}

@@ -4,7 +4,7 @@ use Rattle.energy_core.specs.declared.entries.Entry.TheVariants as entry
 use Rattle.office_core.specs.declared.refusing.given.GivenEntry.{GivenEntry}
 use Rattle.office_core.specs.declared.refusing.given.GivenEntry.TheVariants as given
 
--- The meter entry with the unchecked numbers of the command.
+-- The meter entry that has the numbers of a command, before the program checks these numbers.
 abbrev pub entry_of : GivenEntry → Entry
 entry_of (given.Step at raw rolls) = entry.Step at raw rolls
 entry_of (given.Change at before after sf) = entry.Change at before after sf

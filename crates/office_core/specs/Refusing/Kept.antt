@@ -1,4 +1,5 @@
--- Answers to requests with a known idempotency key.
+-- Answers to requests whose idempotency key is already in the store: the stored answer for a retry,
+-- or a refusal for a different request.
 use Rattle.std.specs.Prelude.{◌≡◌, Option, Result, Ok, Err, IfSome, IfErr}
 use Rattle.office_events.specs.declared.answers.CommandKind.{CommandKind}
 use Rattle.office_events.specs.declared.events.Event.{Event}
@@ -8,13 +9,15 @@ use Rattle.office_events.specs.declared.refusals.Refusal.TheVariants.{Reused}
 use Rattle.office_books.specs.declared.books.Repeat.{Repeat}
 use Rattle.office_books.specs.declared.books.Repeat.TheVariants.{Same, Other}
 
--- The answer to a request with a known idempotency key. For a retry, the answer is the kind of the
--- stored command. For a different request, the answer is `Reused`.
+-- The answer to a request whose idempotency key is already in the store. For a retry, the answer is
+-- the kind of the stored command. For a different request, the answer is the refusal `Reused` (the
+-- key was reused).
 abbrev pub kept_as : Repeat → Result CommandKind Refusal
 kept_as (Same kind) = Ok kind
 kept_as Other = Err Reused
 
--- True if a request with a known idempotency key is refused for no reason other than `Reused`.
+-- True if a request with a known idempotency key is refused for no reason other than `Reused` (the
+-- request stored under this key has other bytes).
 abbrev pub IsReusedIfRefused : Option (Result CommandKind Refusal) → Type 0
 IsReusedIfRefused answer = IfSome answer (λ r. IfErr r (λ why. why ≡ Reused))
 

@@ -16,14 +16,14 @@ use Rattle.office_core.specs.Refusing.Asking.{IsOfEvent}
 use Rattle.office_core.specs.Sessions.Ranges.{IsCommandInRange}
 
 -- The timestamp `at` of an event, with two checks: whether it is before the latest accepted event,
--- and whether it is above the limit.
+-- and whether it is above the greatest allowed timestamp.
 abbrev pub arrival_of : (latest at : ℕ) → Arrival
 arrival_of latest at =
     record { moment = at; is_back = nat_lt at latest; is_beyond = nat_lt moment_limit at }
 
 -- The timestamp `at` of a request with an idempotency key, with the results of two checks. The
--- check of the limit also fails if the key's caller name is invalid or its number exceeds the
--- limit.
+-- check of the greatest timestamp also fails if the key's caller name is invalid or its number
+-- exceeds its limit.
 abbrev pub request_arrival : (latest at : ℕ) → Asked → Arrival
 request_arrival latest at asked = record {
   moment = at;
@@ -31,48 +31,51 @@ request_arrival latest at asked = record {
   is_beyond = nat_lt moment_limit at || is_none asked.caller || nat_lt request_limit asked.number;
 }
 
--- True if this reason to refuse applies because of the command's timestamp or idempotency key.
+-- True if the given reason to refuse applies because of the command's timestamp or idempotency key.
 abbrev pub comes_wrongly : Arrival → Refusal → Bool
 comes_wrongly arrival refusal.ClockBack = arrival.is_back
 comes_wrongly arrival refusal.Limit = arrival.is_beyond
 comes_wrongly arrival _ = false
 
--- True if this reason to refuse applies to the command, because of its timestamp, its idempotency
--- key or its content.
+-- True if the given reason to refuse applies to the command, because of its timestamp, its
+-- idempotency key or its content.
 abbrev pub speaks_against : List sessions.Slot → List Fact → Arrival → Command → Refusal → Bool
 speaks_against slots facts arrival c why =
     comes_wrongly arrival why || asks_wrongly slots facts arrival.moment c why
 
--- The first reason to refuse the command, or `None` if no reason applies.
+-- The first reason in the list `reasons` for which the specification refuses the command, or `None`
+-- if it accepts the command.
 abbrev pub refusal_under : List sessions.Slot → List Fact → Arrival → Command → Option Refusal
 refusal_under slots facts arrival c = find (speaks_against slots facts arrival c) reasons
 
--- True if a decision on the command (a reason to refuse it, or none) is correct for these records
--- and any devices.
+-- True if a decision on the command (a reason to refuse it, or none) follows from the specification
+-- and the given records. The state of the devices' connections does not matter.
 abbrev pub IsWhy : Arrival → Command → List Fact → Option Refusal → Type 0
 IsWhy arrival c facts r = (slots : List sessions.Slot) → r ≡ refusal_under slots facts arrival c
 
--- True if a decision on the command (a reason to refuse it, or none) is correct for these records
--- and device connections.
+-- True if a decision on the command (a reason to refuse it, or none) is the one that the
+-- specification gives for the given records and device connections.
 abbrev pub IsWhyAmong : List Slot → Arrival → Command → List Fact → Option Refusal → Type 0
 IsWhyAmong kept arrival c facts r =
     (slots : List sessions.Slot) → KeepsSlots kept slots → r ≡ refusal_under slots facts arrival c
 
--- True if the command's timestamp is not before the latest event and not above the limit, and the
--- command's numbers are in range.
+-- True if the command's timestamp is not before the latest event and not above the greatest allowed
+-- timestamp, and the command's numbers are in the ranges permitted for them.
 pub record ComesInRange (arrival : Arrival) (c : Command) : Type 0 where
   pub not_back : arrival.is_back ≡ false
   pub within : arrival.is_beyond ≡ false
   pub command : IsCommandInRange arrival.moment c
 
--- True if the result of checking a command is correct for the command. If the command was accepted,
--- it is in range. If it was refused, the stated reason is of a kind that an event itself can have.
+-- True if the result of checking a command is possible for the command. If the command was
+-- accepted, its timestamp and its values are in the ranges permitted for them. If it was refused,
+-- the reason lies in the event itself, not in a failure or a stopped program.
 abbrev pub Befits : Arrival → Command → Option Refusal → Type 0
 Befits arrival c None = ComesInRange arrival c
 Befits arrival c (Some why) = IsOfEvent why
 
--- True if this reason to refuse applies to a device event. The possible reasons are a wrong
--- timestamp, an unknown device, and a device that is unexpectedly connected or not connected.
+-- True if the given reason to refuse applies to a device event. The possible reasons are a wrong
+-- timestamp, an unknown device, a connected device that connects again, and another event of a
+-- device that is not connected.
 abbrev pub speaks_of_session : Arrival → (is_unknown is_busy : Bool) → Refusal → Bool
 speaks_of_session arrival is_unknown is_busy refusal.NotFound = is_unknown
 speaks_of_session arrival is_unknown is_busy refusal.Busy = is_busy

@@ -10,8 +10,9 @@ use Rattle.office_books.specs.declared.faults.BooksFault.{BooksFault}
 use Rattle.office_books.specs.Ledgers.{Ledger}
 use Rattle.office_core.specs.Refusing.Asking.{IsOfSession}
 
--- States that, if every wrong result of the store was detected, the result is the reason to refuse
--- the event, if any. The result is computed from the connections in memory and the store.
+-- States that the result is the reason to refuse the event, if there is one. The result is computed
+-- from the connections in memory and the store. States nothing if a wrong result of the store was
+-- not detected.
 abbrev pub ReportsWhy : (old new : Ledger) → List Slot → (latest at : ℕ) → Event
     → Result (Option Refusal) BooksFault → Type 0
 ReportsWhy old new kept latest at e result =

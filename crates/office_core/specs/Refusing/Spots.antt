@@ -17,8 +17,8 @@ use Rattle.office_core.specs.declared.refusing.voids.Spot.{Spot}
 use Rattle.office_core.specs.declared.refusing.voids.Spot.TheVariants as spot
 use Rattle.office_core.specs.Refusing.Reasons.{comes_wrongly}
 
--- True if the sequence number is not that of the opening or of an entry in the meter's journal
--- (history).
+-- True if no item of the meter's journal (history) has the sequence number: neither the opening
+-- (first entry) nor a later entry.
 abbrev pub is_nothing : Spot → Bool
 is_nothing spot.Nothing = true
 is_nothing spot.Opening = false
@@ -54,13 +54,14 @@ pub record IsAt (facts : List Fact) (meter : Option (List ℕ)) (place : ℕ)
   pub verdict : verdict_at (entry_in found)
       ≡ verdict_at (option_and_then (λ m. entry_at facts m place) meter)
 
--- True if all numbers in the state of a meter before the entry are in range.
+-- True if all numbers in the state that the meter had before the given entry are in range. Also
+-- true for the opening (first entry) and for a missing entry.
 abbrev pub IsSoundSpot : Spot → Type 0
 IsSoundSpot (spot.Entry place) = IsSound place.before
 IsSoundSpot _ = Unit {0}
 
--- True if this reason to refuse applies to a void (cancellation) of the given item of a meter's
--- journal (history).
+-- True if the given reason to refuse applies to a void (cancellation) of the given item of a
+-- meter's journal (history).
 abbrev pub speaks_of_void : Arrival → Spot → Refusal → Bool
 speaks_of_void arrival found refusal.NotFound = is_nothing found
 speaks_of_void arrival found refusal.NotVoidable = is_not_voidable (entry_in found)
@@ -68,13 +69,13 @@ speaks_of_void arrival found (refusal.NotPlausible why) =
     is_held_for why (verdict_at (entry_in found))
 speaks_of_void arrival found why = comes_wrongly arrival why
 
--- The first reason to refuse a void (cancellation) of the given item of a meter's journal
--- (history), or `None`.
+-- The first reason to refuse a void (cancellation) of what a meter has at a sequence number:
+-- nothing, its opening (first entry) or a later entry. `None` if no reason applies.
 abbrev pub void_refusal : Arrival → Spot → Option Refusal
 void_refusal arrival found = find (speaks_of_void arrival found) reasons
 
--- True if this reason to refuse applies to a void (cancellation) of the entry, regardless of the
--- timestamp of the void.
+-- True if the given reason to refuse applies to a void (cancellation) of the entry, regardless of
+-- the timestamp of the void.
 abbrev pub speaks_of_strike : EntryContext → Refusal → Bool
 speaks_of_strike place refusal.NotVoidable = is_not_voidable (Some place)
 speaks_of_strike place (refusal.NotPlausible why) = is_held_for why (verdict_at (Some place))

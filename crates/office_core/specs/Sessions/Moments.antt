@@ -1,4 +1,4 @@
--- An upper bound on the timestamps of a Modbus session's events.
+-- States that no event of a device's Modbus session is later than a given timestamp.
 use Rattle.std.specs.Prelude.{ℕ, ◌≤◌, List, Option, Some, None}
 use Rattle.poll_core.specs.Settling as session
 use Rattle.poll_core.specs.Standing.{last_moment}

@@ -29,7 +29,7 @@ IsReported (fact.Entry booked) = booked.kind ≡ kind.Reading
 IsReported (fact.Hold held) = Unit {0}
 IsReported _ = ⊥
 
--- True if all of these records are outcomes of polls, accepted readings or rejected readings.
+-- True if all of the given records are outcomes of polls, accepted readings or rejected readings.
 abbrev pub AreReported : List Fact → Type 0
 AreReported [] = Unit {0}
 AreReported (f ∷ facts) = IsReported f × AreReported facts
@@ -43,31 +43,31 @@ pub record IsAdded (known : List Fact) (old new : PendingWrite) (more : List Fac
   pub reported : AreReported new.facts.items
 
 -- States that the pending write (records not yet stored) gains the given records and notifications
--- if two conditions hold. The resulting records are valid (`AreLawful`), and every wrong result of
--- the store was detected.
+-- if two conditions hold. The resulting records are lawful (the rules for adding records accept
+-- each one), and every wrong result of the store was detected.
 abbrev pub Grows : (holds : List Fact → Type 0) (clean : Type 0) (old new : PendingWrite)
     → (List Fact → List Fact) → (List Fact → List Note) → Type 0
 Grows holds clean old new more reports =
     (known : List Fact) → holds known → clean → AreReported old.facts.items
     → AreLawful (more (so_far old known)) → IsAdded known old new more reports
 
--- True if a successful call adds the given records and notifications to the pending write (records
--- not yet stored).
+-- True if a call failed, or if it added exactly the given records and notifications to the pending
+-- write (records not yet stored).
 abbrev pub Adds : {T : Type 0} → (old new : Ledger) → (before after : PendingWrite) → Result T BooksFault
     → (List Fact → List Fact) → (List Fact → List Note) → Type 0
 Adds old new before after result more reports =
     OnOk result (Grows old.holds new.is_clean before after more reports)
 
--- True if the result of a lookup is correct for the store's records followed by the records of the
--- pending write (not yet stored).
+-- True if the result of a lookup is the one that follows from the store's records and the records
+-- of the pending write (not yet stored).
 abbrev pub FindsAfter : {T : Type 0} → (old new : Ledger) → PendingWrite → Result T BooksFault
     → (List Fact → T → Type 0) → Type 0
 FindsAfter old new draft result says =
     (known : List Fact) → old.holds known → new.is_clean → AreReported draft.facts.items
     → AreLawful (so_far draft known) → IfOk result (says (so_far draft known))
 
--- True if the call succeeds without a query of the store, and leaves the pending write (records not
--- yet stored) unchanged.
+-- True if a call for a device event succeeds without a query of the store, and leaves the pending
+-- write (records not yet stored) unchanged.
 pub record IsIdle {T B : Type 0} (result : Result T BooksFault) (old new : B)
     (before after : PendingWrite) : Type 0 where
   pub ok : IsOk result

@@ -14,18 +14,19 @@ use Rattle.office_core.specs.Sessions.Keeping.{KeepsSlots}
 use Rattle.office_books.specs.declared.faults.BooksFault.{BooksFault}
 use Rattle.office_books.specs.Ledgers.{Ledger, Moves}
 
--- True if the devices and their connections agree with the state after the accepted events `past`,
--- and no reason to refuse the event applies.
+-- True if the devices and their connections are in the state after the accepted events `past`, and
+-- no reason to refuse the event applies.
 pub record IsNext (past : History) (slots : List Slot) (at : ℕ) (e : Event) : Type 0 where
   pub is_past : IsPast past
   pub keeps : KeepsSlots slots (slots_of past)
   pub accepted : refusal_of past at e ≡ None
 
 -- The guarantees of processing a device event. On `Ok` the store has all poll outcomes and readings
--- of the event, the sessions have processed the event, and the notifications are correct.
+-- of the event, the Modbus sessions have processed the event, and the notifications are those of
+-- the event.
 --
--- On an error the store's records are unchanged, but after a crash the store may have all records
--- of the event.
+-- If processing a device event returns an error, the store's records are unchanged, but after a
+-- crash the store may have all records of the event.
 pub record Settles (past : History) (at : ℕ) (e : Event) (old new : Ledger) (after : List Slot)
     (result : Result (Vec Note Global) BooksFault) : Type 0 where
   pub slots : OnOk result (KeepsSlots after (slots_of (Fed at e ∷ past)))
@@ -33,7 +34,8 @@ pub record Settles (past : History) (at : ℕ) (e : Event) (old new : Ledger) (a
   pub notes : old.holds (facts_of past) → new.is_clean → IfOk result (λ reported.
       reported.items ≡ notes_of (next_poll (facts_of past)) at e (slots_of past) (facts_of past))
 
--- True if the call succeeds without a query of the store, and reports no notifications.
+-- True if the processing of a device event succeeds without a query of the store, and reports no
+-- notifications.
 pub record IsQuiet {B : Type 0} (old new : B)
     (result : Result (Vec Note Global) BooksFault) : Type 0 where
   pub ok : IsOk result

@@ -15,25 +15,25 @@ use Rattle.office_books.specs.Lawful.{AreLawful}
 use Rattle.office_books.specs.Laws.{IsRecorded}
 use Rattle.office_core.specs.Settling.Drafts.{AreReported}
 
--- The state of a meter after an entry, given the result of checking the entry. A valid entry
--- advances the counter and the energy. After an invalid entry the state is unchanged.
+-- The state of a meter after a meter entry, given the result of checking the entry. An accepted
+-- entry advances the counter and the energy. After a refused entry the state is unchanged.
 abbrev pub with_result : Installation → Result (Last × Step) TermFault → Installation
 with_result row (Ok entry) = record row { last = entry.0; total = row.total + entry.1.mwh }
 with_result row (Err fault) = row
 
--- The state of a meter after an entry of this meter. If the entry is invalid, the state is
--- unchanged.
+-- The state of a meter after one more entry (such as a reading) of this meter. If the rules for
+-- meter entries do not accept the entry, the state is unchanged.
 abbrev pub with_entry : Installation → Entry → Installation
 with_entry row e = with_result row (entered row.opening.range row.total row.last e)
 
--- The state of a meter after an entry of any meter. If the entry is of another meter, the state is
--- unchanged.
+-- The state of a meter after a meter entry (such as a reading) of any meter. If the entry is of
+-- another meter, the state is unchanged.
 abbrev pub with_booked : BookedEntry → Installation → Installation
 with_booked booked row =
     if same booked.meter row.opening.meter then with_entry row booked.entry else row
 
--- The state of a meter after a record. If the record is not an entry of this meter, the state is
--- unchanged.
+-- The state of a meter after one more record in the store. If the record is not an entry of this
+-- meter, the state is unchanged.
 abbrev pub installation_with : Fact → Installation → Installation
 installation_with (fact.Entry booked) row = with_booked booked row
 installation_with _ row = row

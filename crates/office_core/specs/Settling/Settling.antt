@@ -37,14 +37,14 @@ happening_on at (event.Gone given closing) device =
     if is_named given device.name then Some (session.Close at closing) else None
 happening_on at _ device = None
 
--- True if the slot `kept` in memory has the device and the session of `slot` (`KeepsSlot`). No
--- event of the session may be later than `at`.
+-- True if the slot `kept` (a device with its connection) in memory has the device and the session
+-- of `slot`. No event of the session may be later than `at`.
 pub record MayReach (at : ℕ) (kept : Slot) (slot : sessions.Slot) : Type 0 where
   pub keeps : KeepsSlot kept slot
   pub before : none_later at slot.present
 
--- True if each slot in memory has the device and the session of the given slot at the same index.
--- No event of a session may be later than the timestamp.
+-- True if each slot (a device with its connection) in memory has the device and the session of the
+-- given slot at the same index. No event of a session may be later than the timestamp.
 abbrev pub MayReachAll : ℕ → List Slot → List sessions.Slot → Type 0
 MayReachAll at [] [] = Unit {0}
 MayReachAll at (k ∷ kept) (slot ∷ slots) = MayReach at k slot × MayReachAll at kept slots
@@ -71,17 +71,18 @@ pub record ReportsSettled (holds : List Fact → Type 0) (clean : Type 0) (befor
       let outcomes = session.outcomes_at before.timeout events happening in
       Grows holds clean first last (with_outcomes at outcomes) (outcomes_notes at outcomes)
 
--- States that, if the event is not earlier than the session's last event, a successful call passes
--- the event to the session. The call adds all outcomes of the event to the pending write (records
--- not yet stored).
+-- States that, if the event is not earlier than the Modbus session's last event, a successful call
+-- passes the event to the session. The call adds all outcomes of the event to the pending write
+-- (records not yet stored).
 abbrev pub ReportsAll : {T : Type 0} → (old new : Ledger) → (before after : State) → session.Event
     → (first last : PendingWrite) → Result T BooksFault → Type 0
 ReportsAll old new before after happening first last result =
     before.last ≤ session.moment_of happening
     → OnOk result (ReportsSettled old.holds new.is_clean before after happening first last)
 
--- True if an event that concerns the session is processed completely. If the event does not concern
--- the session, then the session and the pending write (records not yet stored) are unchanged.
+-- States that a successful call passes an event that concerns the Modbus session to it, and adds
+-- all outcomes of the event to the pending write (records not yet stored). If the event does not
+-- concern the session, then both are unchanged.
 abbrev pub ReportsReached : {T : Type 0} → (old new : Ledger) → (before after : State)
     → Option session.Event → (first last : PendingWrite) → Result T BooksFault → Type 0
 ReportsReached old new before after None first last result =
@@ -99,14 +100,15 @@ abbrev pub ends_session : Option session.Event → Bool
 ends_session None = false
 ends_session (Some happening) = sessions.is_close happening
 
--- True if the event ends no poll on the connections of these devices.
+-- True if the event ends no poll on the connections of the given devices.
 abbrev pub SettleNothing : (number at : ℕ) → Event → List sessions.Slot → Type 0
 SettleNothing number at e [] = Unit {0}
 SettleNothing number at e (slot ∷ slots) =
     (settled_by number at e slot ≡ []) × SettleNothing number at e slots
 
--- True if the outcomes and readings that the event causes on this device's session are added to the
--- pending write (records not yet stored). The next poll number does not matter.
+-- True if a successful call added to the pending write (records not yet stored) the outcomes and
+-- readings that the event causes on the given device's Modbus session. They do not depend on the
+-- number of the next poll.
 abbrev pub AddsOfSlot : {T : Type 0} → (old new : Ledger) → (at : ℕ) → Event → Slot
     → (before after : PendingWrite) → Result T BooksFault → Type 0
 AddsOfSlot old new at e kept before after result =
@@ -114,8 +116,8 @@ AddsOfSlot old new at e kept before after result =
     → let outcomes = settled_by number at e stood in
     Adds old new before after result (with_outcomes at outcomes) (outcomes_notes at outcomes)
 
--- True if the outcomes and readings that the event causes on all sessions are added to the pending
--- write (records not yet stored), in order.
+-- True if the outcomes and readings that the event causes on all Modbus sessions are added to the
+-- pending write (records not yet stored), in order.
 abbrev pub AddsOfSlots : {T : Type 0} → (old new : Ledger) → (at : ℕ) → Event → List Slot
     → (before after : PendingWrite) → Result T BooksFault → Type 0
 AddsOfSlots old new at e kept before after result =

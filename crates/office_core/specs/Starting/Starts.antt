@@ -1,5 +1,5 @@
--- The Modbus reads that are started on a device's session, with their poll records, their request
--- frames and the resulting session.
+-- The Modbus reads that are started on a device's Modbus session, with their poll records, their
+-- request frames and the resulting session.
 use Rattle.std.specs.Prelude.{◌≡◌, ◌≤◌, ℕ, List, ◌++◌, map, length, Option, Some, None, Result, IfOk}
 use Rattle.std.specs.List.{flat_map}
 use Rattle.std.specs.declared.alloc.AllocError.{AllocError}
@@ -16,49 +16,50 @@ use Rattle.office_books.specs.Sessions.{Slot, Send, start_by, sends_on, sends_at
 use Rattle.office_books.specs.History.{poll_by}
 use Rattle.office_books.specs.Notes.{frame_of}
 
--- The longest prefix of the given reads that can be started on the device's session. The prefix is
--- empty if the device has no session.
+-- The longest prefix of the given reads that can be started on the device's Modbus session. The
+-- prefix is empty if the device has no session.
 abbrev pub sends_of : (number at : ℕ) → List ReadSpan → Slot → List Send
 sends_of number at spans slot = sends_at number at slot.device slot.present spans
 
--- The poll records of the reads that can be started on the Modbus session of the device slot.
+-- The poll records of the Modbus reads that can be started on the session of the device slot (a
+-- device with its connection).
 abbrev pub polls_of : (number at : ℕ) → List ReadSpan → Slot → List Fact
 polls_of number at spans slot = map (poll_by at slot.device) (sends_of number at spans slot)
 
--- The bytes of the request frames for the reads that can be started on the Modbus session of the
--- device slot.
+-- The bytes of the request frames for the Modbus reads that can be started on the session of the
+-- device slot (a device with its connection).
 abbrev pub frames_of : (number at : ℕ) → List ReadSpan → Slot → List ℕ
 frames_of number at spans slot = flat_map (frame_of slot.device) (sends_of number at spans slot)
 
--- The device slot after the given reads are started on its Modbus session. A slot without a session
--- is unchanged.
+-- The device slot (a device with its connection) after the given reads are started on its Modbus
+-- session. A slot without a session is unchanged.
 abbrev pub sent_from : (at : ℕ) → Slot → List Send → Option (List session.Event) → Slot
 sent_from at slot sends None = slot
 sent_from at slot sends (Some before) =
     with_happenings slot before (map (start_by at slot.device) sends)
 
--- The device slot after as many of the given reads as its Modbus session allows were started on
--- this session.
+-- The device slot (a device with its connection) after as many of the given reads as its Modbus
+-- session allows were started on this session.
 abbrev pub slot_sent : (number at : ℕ) → List ReadSpan → Slot → Slot
 slot_sent number at spans slot = sent_from at slot (sends_of number at spans slot) slot.present
 
--- True if exactly the given number of these reads can be started on the session, for any next poll
--- number and timestamp.
+-- True if exactly the given number of the given reads can be started on the Modbus session, for any
+-- next poll number and timestamp.
 abbrev pub CountsSends : (device : Device) (kept : State) → List ReadSpan → ℕ → Type 0
 CountsSends device kept spans count =
     (number at : ℕ) (events : List session.Event) → KeepsSession device kept events
     → count ≡ length (sends_on number at device events spans)
 
--- True if a successful result equals the poll records of the reads that can be started on the
--- Modbus session.
+-- True if a function's successful result is the list of the poll records for those of the given
+-- Modbus reads that can be started on the device's session.
 abbrev pub GivesPolls : (device : Device) (kept : State) → (number at : ℕ) → List ReadSpan
     → Result (Vec Fact Global) AllocError → Type 0
 GivesPolls device kept number at spans result =
     (events : List session.Event) → KeepsSession device kept events → IfOk result (λ facts.
     facts.items ≡ map (poll_by at device) (sends_on number at device events spans))
 
--- States that, if no event of the session is later than `at`, a property holds for the session's
--- events and the startable reads.
+-- States a property of the Modbus session's events and of the reads that the session can start at
+-- `at`. The statement applies if no event of the session is later than `at`.
 abbrev pub WhereSent : (device : Device) (kept : State) → (number at : ℕ) → List ReadSpan
     → (List session.Event → List Send → Type 0) → Type 0
 WhereSent device kept number at spans so =
@@ -72,6 +73,7 @@ abbrev pub KeepsStarts : (device : Device) (at : ℕ) (kept : State) → List se
 KeepsStarts device at kept events sends =
     KeepsSession device kept (events ++ map (start_by at device) sends)
 
--- True if no event of the device slot's Modbus session is later than the timestamp.
+-- True if no event of the Modbus session of the device slot (a device with its connection) is later
+-- than the timestamp.
 abbrev pub IsBefore : ℕ → Slot → Type 0
 IsBefore at slot = none_later at slot.present

@@ -151,7 +151,8 @@ fn start_at<B: Books>(
     start(alloc, &mut slots[place], books, moment, command, reply)
 }
 
-/// Executes an accepted command.
+/// Executes a command that the office (the event engine) accepted: adds its records to the store,
+/// and starts the Modbus reads that it requests.
 fn obey<B: Books>(
     alloc: Global,
     slots: &mut Vec<Slot>,
@@ -188,7 +189,7 @@ fn obey<B: Books>(
     }
 }
 
-/// Executes an accepted event that requests a command.
+/// Executes an event that the office (the event engine) accepted and that requests a command.
 ///
 /// The command's records and the stored answer to the request are written together. The command's
 /// polls are started, and a new device gets a slot for its connection. After an error, the

@@ -1,5 +1,5 @@
-//! Opens the program's store: records each pending poll as lost, and creates a slot without a
-//! Modbus session for each device.
+//! Opens the program's store: records each pending poll as lost, and creates a slot (connection
+//! state) without a Modbus session for each device.
 ghost use Rattle.std.specs.Prelude.{◌≡◌, ◌≤◌, List, map, reverse, None, IfOk, IfSome, OnErr};
 ghost use Rattle.office_events.specs.declared.facts.Fact.{Fact};
 ghost use Rattle.office_books.specs.Facts.{moment_limit, devices_in};
@@ -53,7 +53,7 @@ fn lost_facts(alloc: Global, moment: u64, polls: &[Poll]) -> Result<Vec<Fact>, A
     polls.iter().map(|poll| lost(moment, poll)).collect(alloc)
 }
 
-/// Returns a slot without a Modbus session for each device in the store.
+/// Returns a slot (connection state) without a Modbus session for each device in the store.
 fn slots_in<B: Books>(alloc: Global, books: &mut B) -> Result<Vec<Slot>, BooksFault>
     ensures found { Finds (B.ledger books.old) (B.ledger books.new) result
         (λ known slots. slots.items ≡ map opening.opened (reverse (devices_in known))) }
@@ -63,7 +63,8 @@ fn slots_in<B: Books>(alloc: Global, books: &mut B) -> Result<Vec<Slot>, BooksFa
     Ok(opened_slots(alloc, &devices)?)
 }
 
-/// Records each pending poll of the store as lost. If no poll is pending, writes nothing.
+/// Records each pending poll (without an outcome) of the store as lost. If no poll is pending,
+/// writes nothing.
 fn book_lost<B: Books>(alloc: Global, books: &mut B, moment: u64) -> Result<(), BooksFault>
     ensures books { (known : List Fact) → AreLawful (with_lost moment known)
         → Moves (B.ledger books.old) (B.ledger books.new) known (with_lost moment known) result }
@@ -80,7 +81,8 @@ fn book_lost<B: Books>(alloc: Global, books: &mut B, moment: u64) -> Result<(), 
 }
 
 /// Returns the reason to refuse an opening of the store, or `None` if the opening is acceptable. An
-/// opening is refused if its timestamp is before a record's timestamp, or above the limit.
+/// opening is refused if its timestamp is before a record's timestamp, or above the greatest
+/// allowed timestamp.
 ///
 /// Timestamps are in seconds since 1970-01-01 UTC.
 pub fn opening_refusal<B: Books>(books: &mut B, moment: u64) -> Result<Option<Refusal>, BooksFault>
@@ -99,11 +101,11 @@ pub fn opening_refusal<B: Books>(books: &mut B, moment: u64) -> Result<Option<Re
     Ok(None)
 }
 
-/// Records an acceptable opening of the store, and returns a slot without a Modbus session for each
-/// device.
+/// Records that the program opened the store at the time `moment`, which `MayOpen` must accept.
+/// Returns a slot (connection state) without a Modbus session for each device.
 ///
-/// All pending polls are recorded as lost in one write. If no poll is pending, nothing is written.
-/// The slots are in the order in which the devices were added.
+/// All pending polls (without an outcome) are recorded as lost in one write. If no poll is pending,
+/// nothing is written. The returned slots are in the order in which the devices were added.
 pub fn book_opening<B: Books>(
     alloc: Global,
     books: &mut B,

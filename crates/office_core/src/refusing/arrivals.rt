@@ -18,8 +18,9 @@ pub struct Arrival {
 }
 
 impl Arrival {
-    /// Returns the timestamp `moment` of an event, checked against the timestamp `latest` of the
-    /// latest accepted event.
+    /// Returns the timestamp `moment` of an event with the results of two checks. They say whether
+    /// `moment` is before `latest`, the timestamp of the latest accepted event, and whether
+    /// `moment` is above the greatest allowed timestamp.
     pub fn new(latest: u64, moment: u64) -> Arrival
         ensures { result ≡ reasons.arrival_of latest moment }
     {
@@ -30,8 +31,9 @@ impl Arrival {
         }
     }
 
-    /// Returns the timestamp `moment` of a request. The request's idempotency key is checked as
-    /// well.
+    /// Returns the timestamp `moment` of a request, with the results of two checks. It must not be
+    /// before the latest timestamp, and it must be in range. An invalid caller or request number
+    /// counts as out of range.
     pub fn of_request(latest: u64, moment: u64, asked: &Asked) -> Arrival
         ensures { result ≡ reasons.request_arrival latest moment asked.now }
     {

@@ -1,4 +1,4 @@
-//! Finds the reason to refuse an entry that a command adds to a meter.
+//! Finds the reason to refuse a meter entry (such as a reset or a closing) that a command adds.
 ghost use Rattle.std.specs.Prelude.{◌≡◌};
 ghost use Rattle.office_books.specs.Ranges.{IsSound};
 ghost use Rattle.office_core.specs.Refusing.Given.{entry_of};
@@ -9,8 +9,8 @@ use crate::refusing::faults::{goes_back, is_full, is_long, is_not_later, is_not_
 use crate::refusing::given::GivenEntry;
 use office_events::{Installation, Refusal};
 
-/// Returns the first reason to refuse an entry at the latest meter of an accounting register, or
-/// `None` if no reason applies.
+/// Returns the first reason to refuse a meter entry at the latest meter of an accounting register
+/// (a named energy counter), or `None` if no reason applies.
 ///
 /// `off_scale` is true if the command's scale is out of range, and `off_limits` is true if another
 /// number of the command is out of range.

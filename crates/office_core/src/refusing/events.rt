@@ -17,8 +17,8 @@ use office_events::{Event, Refusal};
 /// Returns the first reason to refuse an event, or `None` if no reason applies.
 ///
 /// `latest` is the timestamp of the latest accepted event, in seconds since 1970-01-01 UTC. The
-/// function makes each query of the store at most once, and stops at the first reason. If a query
-/// fails, the function returns its failure.
+/// function makes each query of the store at most once, and stops at the first reason for a
+/// refusal. If a query fails, the function returns the store's failure.
 pub fn refusal<B: Books>(
     books: &mut B,
     slots: &[Slot],

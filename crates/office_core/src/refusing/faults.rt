@@ -11,7 +11,7 @@ use crate::refusing::given::GivenEntry;
 use energy_core::{INTERVAL_SECONDS, MAX_INTERVALS, MAX_RANGE, MAX_TOTAL, energy_up_to};
 use office_events::Installation;
 
-/// Returns the timestamp of the command's entry, in seconds since 1970-01-01 UTC.
+/// Returns the timestamp of the meter entry that a command adds, in seconds since 1970-01-01 UTC.
 fn moment(given: &GivenEntry) -> u64
     ensures { result ≡ moment_of (entry_of given.now) }
 {
@@ -20,8 +20,9 @@ fn moment(given: &GivenEntry) -> u64
     }
 }
 
-/// Returns the counter value that was reached at the entry. For a `Step`, the value includes the
-/// full range of each rollover. For a `Change`, it is the value before the counter was set.
+/// Returns the counter value that was reached at a meter entry. For a `Step` (the counter
+/// advanced), the value includes the full range of each rollover. For a `Change` (the counter was
+/// set), it is the value before the change.
 fn reach(range: u64, given: &GivenEntry) -> u128
     requires { range ≤ MAX_RANGE }
     ensures value { result ≡ reached range (entry_of given.now) }
@@ -35,7 +36,7 @@ fn reach(range: u64, given: &GivenEntry) -> u128
     }
 }
 
-/// Returns true if the counter would have decreased since the meter's last entry.
+/// Returns true if the counter would have decreased from the meter's last entry to the given entry.
 pub fn goes_back(row: &Installation, given: &GivenEntry) -> bool
     requires { IsSound row.now }
     ensures { result ≡ entry_has_fault row.now (entry_of given.now) fault.NegativeStep }
@@ -43,15 +44,16 @@ pub fn goes_back(row: &Installation, given: &GivenEntry) -> bool
     reach(row.opening.range, given) < u128::from(row.last.raw)
 }
 
-/// Returns true if the entry's timestamp is at or before the timestamp of the meter's last entry.
+/// Returns true if the given entry's timestamp is at or before the timestamp of the meter's last
+/// entry.
 pub fn is_not_later(row: &Installation, given: &GivenEntry) -> bool
     ensures { result ≡ entry_has_fault row.now (entry_of given.now) fault.NotLater }
 {
     moment(given) <= row.last.at
 }
 
-/// Returns true if the time since the meter's last entry overlaps more than the maximum number of
-/// quarter hours.
+/// Returns true if the time from the meter's last entry to the given entry overlaps more than the
+/// maximum number of quarter hours.
 pub fn is_long(row: &Installation, given: &GivenEntry) -> bool
     ensures { result ≡ entry_has_fault row.now (entry_of given.now) fault.SpanTooLong }
 {
@@ -59,7 +61,7 @@ pub fn is_long(row: &Installation, given: &GivenEntry) -> bool
     MAX_INTERVALS < last.saturating_sub(row.last.at / INTERVAL_SECONDS) + 1
 }
 
-/// Returns true if the entry would raise the meter's total energy above its limit.
+/// Returns true if the given entry would raise the meter's total energy above its limit.
 pub fn is_full(row: &Installation, given: &GivenEntry) -> bool
     requires { IsSound row.now }
     ensures { result ≡ entry_has_fault row.now (entry_of given.now) fault.TotalFull }
@@ -68,8 +70,8 @@ pub fn is_full(row: &Installation, given: &GivenEntry) -> bool
     u128::from(MAX_TOTAL) < u128::from(row.total) + energy
 }
 
-/// Returns true if a counter value of the entry exceeds the greatest value that the counter can
-/// show.
+/// Returns true if a counter value of the given entry exceeds the greatest value that the counter
+/// can show.
 pub fn is_not_shown(row: &Installation, given: &GivenEntry) -> bool
     ensures { result ≡ entry_has_fault row.now (entry_of given.now) fault.NotBelowRange }
 {

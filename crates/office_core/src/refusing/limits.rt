@@ -11,29 +11,30 @@ use office_events::{
 };
 use poll_core::{MAX_TIMEOUT, MAX_WINDOW};
 
-/// Returns true if a scale factor is out of range.
+/// Returns true if a scale factor is not from -3 to 3.
 pub fn is_off_scale(sf: i64) -> bool
     ensures { result ≡ refusals.is_off_scale sf }
 {
     sf < i64::from(MIN_SCALE) || i64::from(MAX_SCALE) < sf
 }
 
-/// Returns true if the new scale factor of a change of scale is out of range.
+/// Returns true if the new scale factor of a change of scale is out of the range that is permitted
+/// for a counter (-3 to 3).
 pub fn is_off_scale_rescale(rescale: &Rescale) -> bool
     ensures { result ≡ refusals.asks_bad_scale (command.Rescale rescale.now) }
 {
     is_off_scale(rescale.sf)
 }
 
-/// Returns true if the scale factor of the new meter in an exchange is out of range.
+/// Returns true if the scale factor of the new meter in an exchange is not from -3 to 3.
 pub fn is_off_scale_exchange(exchange: &Exchange) -> bool
     ensures { result ≡ refusals.asks_bad_scale (command.Exchange exchange.now) }
 {
     is_off_scale(exchange.sf)
 }
 
-/// Returns true if the fixed scale of a new accounting register (a named energy counter) is out of
-/// range.
+/// Returns true if the scale of a new accounting register (a named energy counter) is a fixed scale
+/// factor outside the range that the program accepts.
 pub fn is_bad_scale(scale: GivenScale) -> bool
     ensures { result ≡ refusals.is_bad_scale scale }
 {
@@ -116,14 +117,16 @@ fn is_later(moment: u64, reported: Option<u64>) -> bool
     }
 }
 
-/// Returns true if a number in the command for a manual reading is out of range.
+/// Returns true if the command for a manual reading has too many counter rollovers, or a time of
+/// the reading that is after the command's time.
 pub fn is_bad_manual(moment: u64, manual: &Manual) -> bool
     ensures { result ≡ refusals.asks_bad_field moment (command.Manual manual.now) }
 {
     MAX_ROLLS < manual.rolls || is_later(moment, manual.at)
 }
 
-/// Returns true if a number in the command to close a meter is out of range.
+/// Returns true if a number in the command to close a meter is out of the range that commands
+/// permit for it.
 pub fn is_bad_close(moment: u64, close: &Close) -> bool
     ensures { result ≡ refusals.asks_bad_field moment (command.Close close.now) }
 {

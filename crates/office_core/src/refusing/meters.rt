@@ -17,7 +17,7 @@ fn is_open(row: &Option<Installation>) -> bool
     }
 }
 
-/// Returns true if the accounting register (a named energy counter) with this name has an open
+/// Returns true if the accounting register (a named energy counter) with the given name has an open
 /// meter.
 pub fn has_open_meter<B: Books>(books: &mut B, given: &Option<Name>) -> Result<bool, BooksFault>
     ensures found { Finds (B.ledger books.old) (B.ledger books.new) result

@@ -7,7 +7,7 @@ ghost use Rattle.office_books.specs.Ledgers.{Finds, OnlyReads};
 use office_books::{Books, BooksFault};
 use office_events::Name;
 
-/// Returns true if an accounting register (a named energy counter) has this name.
+/// Returns true if an accounting register (a named energy counter) has the given name.
 pub fn has_register<B: Books>(books: &mut B, given: &Option<Name>) -> Result<bool, BooksFault>
     ensures found { Finds (B.ledger books.old) (B.ledger books.new) result
         (λ known b. b ≡ is_some (option_and_then (register_of known) given.now)) }
@@ -19,7 +19,7 @@ pub fn has_register<B: Books>(books: &mut B, given: &Option<Name>) -> Result<boo
     }
 }
 
-/// Returns true if a meter has this name.
+/// Returns true if a meter has the given name.
 pub fn has_meter<B: Books>(books: &mut B, given: &Option<Name>) -> Result<bool, BooksFault>
     ensures found { Finds (B.ledger books.old) (B.ledger books.new) result
         (λ known b. b ≡ is_some (option_and_then (opening_of known) given.now)) }

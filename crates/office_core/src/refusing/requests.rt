@@ -1,4 +1,5 @@
-//! Finds the stored answer to a request that is a retry.
+//! Finds the stored answer to a request that is a retry: the store has a request with the same
+//! idempotency key and the same bytes.
 ghost use Rattle.std.specs.Prelude.{◌≡◌, IsOk, IfOk};
 ghost use Rattle.office_books.specs.Refusals.{kept_of};
 ghost use Rattle.office_books.specs.Ledgers.{Finds, OnlyReads};
@@ -8,7 +9,7 @@ use office_books::{Books, BooksFault, Repeat};
 use office_events::{CommandKind, Event, Refusal};
 
 /// Returns the answer to a request with a known idempotency key: the stored answer to a retry, or
-/// `Reused`.
+/// the refusal `Reused` (the request stored under this key has other bytes).
 fn answer_by(repeat: Repeat) -> Result<CommandKind, Refusal>
     ensures { result ≡ kept_as repeat }
 {
@@ -18,11 +19,11 @@ fn answer_by(repeat: Repeat) -> Result<CommandKind, Refusal>
     }
 }
 
-/// Returns the stored answer if the request is a retry, or `Reused` if the stored request is
-/// different.
+/// Returns the stored answer if the request is a retry, or `Reused` if the request stored under the
+/// same idempotency key has other bytes.
 ///
-/// Returns `None` if the idempotency key is unknown, or if the event has no key. The stored request
-/// is not copied.
+/// Returns `None` if the idempotency key is unknown, or if the event has no key. Does not copy the
+/// request that is stored with the key.
 pub fn kept<B: Books>(
     books: &mut B,
     event: &Event,

@@ -8,7 +8,8 @@ use office_events::Refusal;
 
 /// Returns the first reason to refuse a device event, or `None` if no reason applies.
 ///
-/// `is_busy` is true if the device is unexpectedly connected, or unexpectedly not connected.
+/// `is_busy` is true if a connected device connects again, or if another event comes from a device
+/// that is not connected.
 pub fn refusal_of_session(arrival: &Arrival, is_unknown: bool, is_busy: bool) -> Option<Refusal>
     ensures value { result ≡ session_refusal arrival.now is_unknown is_busy }
     ensures reason { IfSome result IsOfSession }

@@ -46,7 +46,8 @@ fn room(slots: &[Slot], given: &Option<Name>) -> Option<u64>
     }
 }
 
-/// Returns the number of the remaining reads, from index `from` on, in a plan of `count` reads.
+/// Returns how many of a plan's `count` Modbus reads are left from index `from` on. A plan has the
+/// reads that cover a point list.
 fn reads_left(count: usize, from: u64) -> u64
     ensures { (list : Option Planned) → Some count ≡ read_count_of list
         → result ≡ length (round_spans from list) }

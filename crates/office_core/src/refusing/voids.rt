@@ -22,7 +22,7 @@ enum Spot {
     Nothing,
     /// The opening (first entry) of the meter, which has sequence number 1.
     Opening,
-    /// A meter entry after the first, with a sequence number of at least 2.
+    /// A meter entry after the opening (first entry), with a sequence number of at least 2.
     Entry(EntryContext),
 }
 
@@ -46,8 +46,9 @@ fn is_full(found: &Option<EntryContext>) -> bool
 /// meter's total energy instead of the energy before the entry. With either energy, a void
 /// (cancellation) of the entry is accepted or refused for the same reason.
 ///
-/// The function first uses the meter's total energy and reads only the rows around the entry. It
-/// reads all rows only if the total energy might exceed its limit.
+/// To find the entry, the function first uses the meter's total energy and reads only the rows
+/// around the entry. It reads all rows of the meter only if the total energy might exceed its
+/// limit.
 fn entry_of<B: Books>(
     books: &mut B,
     meter: &Name,
@@ -91,8 +92,8 @@ fn find_spot<B: Books>(books: &mut B, given: &Option<Name>, place: u64) -> Resul
     }
 }
 
-/// Returns the verdict (accepted or rejected) on a meter entry that follows the meter's state
-/// `before`, or `None` if the entry sets the counter.
+/// Returns the verdict (accepted or rejected) on an entry that reads the counter, after the state
+/// `before` of the meter. Returns `None` for an entry that sets the counter, such as a reset.
 fn verdict_on(before: &Installation, entry: &Entry) -> Option<Verdict>
     requires { IsSound before.now }
     ensures { result ≡ verdict_between before.now entry.now }
@@ -110,8 +111,8 @@ fn verdict_on(before: &Installation, entry: &Entry) -> Option<Verdict>
     }
 }
 
-/// Returns the verdict (accepted or rejected) that the next valid entry would get if the entry in
-/// `place` were voided (cancelled). Returns `None` if no valid entry follows.
+/// Returns the verdict (accepted or rejected) that the next valid entry would get if the entry
+/// described by `place` were voided (cancelled). Returns `None` if no valid entry follows.
 fn verdict(place: &EntryContext) -> Option<Verdict>
     requires { IsSound place.now.before }
     ensures { result ≡ verdict_at (Some place.now) }
@@ -139,8 +140,8 @@ fn refusal_of_voided_entry(place: &EntryContext) -> Option<Refusal>
     }
 }
 
-/// Returns the first reason to refuse a void (cancellation) of `spot`, an item of a meter's
-/// journal, or `None` if no reason applies.
+/// Returns the first reason to refuse a void (cancellation) of `spot`, an item of a meter's journal
+/// (history), or `None` if no reason applies.
 fn against(arrival: &Arrival, spot: &Spot) -> Option<Refusal>
     requires { spots.IsSoundSpot spot.now }
     ensures found { result ≡ spots.void_refusal arrival.now spot.now }

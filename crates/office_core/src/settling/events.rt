@@ -38,8 +38,8 @@ fn write_records<B: Books>(books: &mut B, facts: Vec<Fact>) -> Result<(), BooksF
 /// the poll's response. If an event ends no poll, the function makes no query of the store and
 /// needs no memory.
 ///
-/// If the call fails, some connections may have been updated, so the caller must discard all Modbus
-/// sessions.
+/// If this function fails, it may have updated the Modbus sessions of some connections. The caller
+/// must then discard all Modbus sessions.
 pub fn settle_event<B: Books>(
     alloc: Global,
     slots: &mut [Slot],

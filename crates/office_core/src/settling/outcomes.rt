@@ -87,8 +87,8 @@ fn add_judged(
 /// Adds the reading of an accounting register (a named energy counter) in a poll's response to the
 /// pending write (records not yet stored).
 ///
-/// Adds nothing if the read does not cover the register's counter and scale factor, or if no meter
-/// is open at the register.
+/// Adds no reading to the pending write if the poll's Modbus read does not cover the register's
+/// counter and scale factor, or if no meter is open at the register.
 fn add_reading<B: Books>(
     books: &mut B,
     draft: &mut PendingWrite,
@@ -112,8 +112,8 @@ fn add_reading<B: Books>(
     add_judged(draft, &row, poll.number, &reading)
 }
 
-/// Adds the readings of several accounting registers in one response to the pending write (records
-/// not yet stored), in the order of the registers.
+/// Adds the readings of several accounting registers (named energy counters) in one response to the
+/// pending write (records not yet stored), in the order of the registers.
 fn add_readings<B: Books>(
     books: &mut B,
     draft: &mut PendingWrite,
@@ -134,7 +134,7 @@ fn add_readings<B: Books>(
 }
 
 /// Adds the readings in a poll's response to the pending write (records not yet stored), one for
-/// each accounting register that the read covers.
+/// each accounting register (a named energy counter) that the read covers.
 fn add_reply<B: Books>(
     books: &mut B,
     draft: &mut PendingWrite,

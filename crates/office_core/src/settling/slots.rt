@@ -77,7 +77,7 @@ fn settle_slot<B: Books>(
         return Ok(());
     }
     // A Modbus session is large, so the sessions of devices that the event does not concern are not
-    // moved.
+    // moved in memory.
     if !reaches(event, &slot.device) {
         return Ok(());
     }

@@ -32,7 +32,8 @@ impl Outgoing {
         }
     }
 
-    /// Appends the bytes of a frame to the buffer.
+    /// Appends the bytes of a Modbus request frame to the buffer of the frames that are to be sent.
+    /// The buffer has room for 260 bytes.
     pub(crate) fn add(&mut self, frame: &[u8])
         requires { length self.old + length frame.now ≤ 260 }
         ensures { self.new ≡ self.old ++ frame.now }
@@ -42,7 +43,7 @@ impl Outgoing {
         self.len = end;
     }
 
-    /// Returns the bytes of all request frames in the buffer.
+    /// Returns the bytes of all Modbus request frames that the output buffer has collected.
     pub fn as_slice(&self) -> &[u8]
         ensures { result.now ≡ self.now }
     {

@@ -1,4 +1,4 @@
-//! Starts Modbus reads on a device's session one by one, as many as the session allows.
+//! Starts Modbus reads on a device's Modbus session one by one, as many as the session allows.
 ghost use Rattle.std.specs.Prelude.{◌≡◌, ◌+◌, ◌≤◌, None, length, IfOk};
 ghost use Rattle.std.specs.List.{flat_map};
 ghost use Rattle.office_books.specs.Sessions as sessions;
@@ -14,7 +14,7 @@ use office_events::{Device, Fact, MAX_POLLS, Poll};
 use poll_core::{LAST_MOMENT, MAX_WINDOW, Session};
 use std::alloc::{AllocError, Global};
 
-/// Returns how many of the given reads the session allows to start now.
+/// Returns how many of the given reads the Modbus session allows to start now.
 fn count_on(kept: &Session, device: &Device, spans: &[ReadSpan]) -> usize
     ensures few { result ≤ MAX_WINDOW }
     ensures inside { result ≤ length spans.now }
@@ -58,7 +58,7 @@ fn poll_facts(
 /// Returns the poll records of as many of the given reads as the Modbus session allows, from the
 /// first read on.
 ///
-/// `number` is the number of the first poll.
+/// `number` is the poll number of the first poll record that the function returns.
 pub fn polls_on(
     alloc: Global,
     slot: &Slot,
@@ -107,7 +107,7 @@ fn start_each(
 /// Starts as many of the given reads as the Modbus session allows, from the first read on, and
 /// returns their request frames.
 ///
-/// `number` is the number of the first poll.
+/// `number` is the poll number of the first read that is started.
 pub fn start_on(slot: &mut Slot, number: u64, moment: u64, spans: &[ReadSpan]) -> Outgoing
     requires number { number ≤ MAX_POLLS + 1 }
     requires limit { moment ≤ LAST_MOMENT }

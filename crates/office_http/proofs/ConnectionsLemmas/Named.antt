@@ -1,5 +1,5 @@
--- Lemmas on the effect of `handle_named`, a function that tests the Host header of a request before
--- it serves the request.
+-- Lemmas that the function `handle_named`, which tests the Host header of a request before it
+-- serves the request, satisfies its contract for accepted and for rejected hosts.
 use Rattle.std.proofs.Common.{◌≡◌, ◌∙◌, ◌⊎◌, inl, inr, ℕ, false, true, List, [], ◌++◌, Option, None, Result, Ok, Err, refl, sym, ap, subst, append_assoc}
 use Rattle.std.specs.Io.KnownBytes.{Consumes, Keeps}
 use Rattle.std.proofs.KnownBytes.{Consumes-kept, Keeps-refl}
@@ -25,8 +25,9 @@ use Rattle.office_http.specs.Connections.Named.{HandlesNamed, MayAsk, RepliesMis
 use Rattle.office_http.specs.declared.fault.HandleFault.{HandleFault}
 use Rattle.office_http.proofs.Handled.{came_is, does_reply, gives_since, stopped}
 
--- Lemmas on a request that is read in two parts. If the contract for reads holds for the head and
--- then for the body, it holds for the complete request.
+-- Lemmas on a request that is read in two parts, first its head and then its body. If no part was
+-- read further once it was complete, and all reads were counted, then both are true for the
+-- complete request.
 
 pub counts_both : {X Y : Type 0} (first : Result X TakeFault) (next : Result Y TakeFault) (a b c : Inbox) (r s t : ℕ)
     → CountsTakes first a b r s → CountsTakes next b c s t → CountsTakes next a c r t
@@ -60,8 +61,8 @@ stops_both a b c chunk was then now came first (inr last) =
       size = last.size;
     }
 
--- If the input buffer was empty before a call of `handle_named`, then all bytes in the buffer after
--- the call were read from the client.
+-- If the input buffer was empty before a call of `handle_named` (which serves one request), then
+-- all bytes in the buffer after the call were read from the client.
 took : (old new : List ℕ) (r s t : Option (List ℕ)) → old ≡ [] → Came old new r s → Keeps s t → Consumes r t new
 took old new r s t empty came keeps =
     subst (Consumes r t) (sym (came_is old new r s empty came)) (Consumes-kept r s t came.chunk came.consumed keeps)
@@ -88,8 +89,8 @@ tested_first names tested read r s head_state finds may came = record {
   may = may;
 }
 
--- Lemmas: if a call of `handle_named` fails to read its request, the call writes nothing and leaves
--- the program's state unchanged.
+-- Lemmas: if a call of `handle_named` (which tests the Host header and serves one request) fails to
+-- read its request, the call writes nothing and leaves the program's state unchanged.
 
 does_nothing : {B : Type 0} (ledger : B → Ledger) (at : ℕ) (office : Office B) (fault : TakeFault) (read : List ℕ) (remaining later given later_given : Option (List ℕ))
     (last : Option LastTake) → IsUnfinished routes read → Keeps given later_given → EndsAt fault later
@@ -124,8 +125,9 @@ no_body names ledger at office fault head_state old mid new remaining between la
   }));
 }
 
--- Lemmas: a call of `handle_named` that writes a response satisfies the contract `HandlesNamed`,
--- whether the Host header was rejected or accepted.
+-- Lemmas: a call of `handle_named` that writes a response satisfies `HandlesNamed`, the contract of
+-- testing the Host header and serving one request. This holds whether the Host header was rejected
+-- or accepted.
 
 pub turned_away : {B : Type 0} (names : List (List ℕ)) (ledger : B → Ledger) (at : ℕ) (office : Office B) (inbox full : Inbox) (head_state : HeadState)
     (result : Result (Unit {0}) HandleFault) (remaining mid later given given_mid later_given : Option (List ℕ)) (was between last : Option LastTake)

@@ -1,4 +1,5 @@
--- Lemmas on the program's state after HTTP connections were served.
+-- Lemmas: the program's state after HTTP connections were served follows from the events accepted
+-- before and the commands of the connections.
 use Rattle.std.proofs.Common.{◌≡◌, ◌⊎◌, inl, inr, ℕ, Bool, ◌≤◌, ◌+◌, List, [], ◌∷◌, ◌++◌, length, Option, None, Some, Result, Ok, Err, refl, sym, ap, ◌∙◌, subst, arith, length-append}
 use Rattle.interval_core.specs.declared.zone.Zone.{Zone}
 use Rattle.office_events.specs.declared.refusals.Refusal.{Refusal}
@@ -18,7 +19,7 @@ use Rattle.office_http.specs.Connections.Connections.{AskedBy, ServesOne, Serves
 use Rattle.office_http.specs.Connections.Named.{HandlesNamed, HasNoRoom, LetsAsk, MayAsk, TurnsAway}
 
 -- If the program executed no command on a connection, then the program's state is still the state
--- after the events that it accepted earlier.
+-- after the events that it accepted before this connection.
 pub unasked : {B : Type 0} (names : List (List ℕ)) (at : ℕ) (ledger : B → Ledger) (past : History) (office : Office B) → Stands ledger past office
     → ServesOne names at ledger past office
 unasked names at ledger past office stands = record {
@@ -73,8 +74,8 @@ does names ledger past at old new link read (Err Read) may h stands clean = same
 does names ledger past at old new link read (Err Short) may h stands clean = same names at ledger past old new h.0.unchanged stands
 does names ledger past at old new link read (Err TurnsUsed) may h stands clean = same names at ledger past old new h.unchanged stands
 
--- If a call tests the Host header and then acts as `handle`, the program's state follows from the
--- earlier events and one more connection.
+-- If a call tests the Host header and then acts as `handle` (which serves one request), the
+-- program's state follows from the events accepted before and this connection.
 pub handled : {B : Type 0} (names : List (List ℕ)) (ledger : B → Ledger) (at : ℕ) (old new : Office B) (link : Passage) (result : Result (Unit {0}) HandleFault)
     → ((read : List ℕ) → Consumes link.remaining link.later_remaining read → MayAsk names read)
     → Handles ledger at old new link result → After ledger old new (λ past. ServesOne names at ledger past new)

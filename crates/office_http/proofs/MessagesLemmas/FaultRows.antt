@@ -1,5 +1,5 @@
--- Lemmas on the JSON of the faulty rows of a point list (a CSV text of registers to poll), which is
--- appended row after row.
+-- Lemma on the JSON of the faulty rows of a point list (a CSV text of registers to poll). The JSON
+-- of `i` + 1 rows is that of the first `i` rows, followed by that of the next row.
 use Rattle.std.proofs.Common.{◌≡◌, ◌∙◌, ℕ, ◌+◌, ◌<◌, List, [], ◌∷◌, ◌++◌, length, get_or, take, refl, sym, ap, append_assoc}
 use Rattle.std.specs.Prelude.{codes, decimal}
 use Rattle.std.proofs.lemmas.List.{append-nil, take_more}
@@ -14,8 +14,8 @@ more_rows-append (x ∷ xs) y = ap (λ t. codes "," ++ row_text x ++ t) (more_ro
 row_after : (old a b : List ℕ) → old ++ codes ",[" ++ a ++ codes "," ++ b ++ codes "]" ≡ old ++ (codes "," ++ (codes "[" ++ a ++ codes "," ++ b ++ codes "]"))
 row_after old a b = simp append_assoc refl
 
--- The JSON of the first `i` + 1 faulty rows is the JSON of the first `i` rows, followed by the JSON
--- of row `i`.
+-- Lemma on the faulty rows of a point list. The JSON of the first `i` + 1 faulty rows is the JSON
+-- of the first `i` rows, followed by the JSON of row `i`.
 pub one_more : (before now next : List ℕ) (rows : List FaultyRow) (i : ℕ) (d : FaultyRow) → i < length rows → now ≡ before ++ more_rows (take i rows)
     → next ≡ now ++ codes ",[" ++ decimal (get_or rows i d).row ++ codes "," ++ decimal (fault_number (get_or rows i d).fault) ++ codes "]" → next ≡ before ++ more_rows (take (i + 1) rows)
 one_more before now next rows i d lt so_far is =

@@ -1,5 +1,5 @@
--- Lemmas: the type of the code and the type of the specification agree on whether a request has a
--- header never, once or more often.
+-- Lemmas: the code and the specification agree on how often a request has a header: never, once or
+-- more often.
 use Rattle.std.proofs.Common.{◌≡◌, ◌≤◌, ℕ, List, [], ◌∷◌, length, refl, sym, ap, arith}
 use Rattle.std.specs.Prelude.{codes}
 use Rattle.office_http.specs.Messages.Head.Headers.{Gives, values_of}

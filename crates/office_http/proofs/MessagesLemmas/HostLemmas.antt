@@ -1,4 +1,5 @@
--- Lemmas on the accepted values of the Host header.
+-- Lemmas: the test of a Host value against a list of accepted host names gives the same result for
+-- borrowed names and for their bytes.
 use Rattle.std.proofs.Common.{◌≡◌, ℕ, Bool, ◌||◌, List, [], ◌∷◌, map, refl, ap}
 use Rattle.std.specs.Borrow.{Bor}
 use Rattle.std.specs.List.{list_any}

@@ -1,4 +1,5 @@
--- Lemmas on the response that the specification allows for the bytes of a request.
+-- Lemmas on which response the specification allows: for a request whose head fails a test, for a
+-- query, and for a command.
 use Rattle.std.proofs.Common.{◌≡◌, ◌∙◌, ◌≢◌, ◌⊎◌, ℕ, Bool, true, false, List, Option, Some, None, Result, Ok, Err, inl, inr, refl, sym, ap, subst}
 use Rattle.std.proofs.lemmas.Bool.{cond-true, cond-false}
 use Rattle.office_http.specs.Messages.Commands.Given.{Gives}

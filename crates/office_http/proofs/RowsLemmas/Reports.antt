@@ -1,5 +1,5 @@
--- Lemmas on the rows that a query returns and that are written as lines of a report, one after
--- another.
+-- Lemmas: the rows that a query returns are written as lines of a report in their order, with the
+-- head of the HTTP response before the first line.
 use Rattle.std.proofs.Common.{◌≡◌, ◌∙◌, ◌+◌, ◌<◌, ◌≤◌, ℕ, zero, suc, List, [], ◌∷◌, ◌++◌, length, refl, sym, ap, subst, arith, append_assoc}
 use Rattle.std.specs.Prelude.{flat_map, min}
 use Rattle.std.proofs.lemmas.Bool.Decides.{nat_tests}

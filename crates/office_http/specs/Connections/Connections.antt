@@ -11,8 +11,8 @@ use Rattle.office_http.specs.Serving.{with_asked}
 use Rattle.office_http.specs.Wants.Wanting.{AsksOffice}
 use Rattle.office_http.specs.Connections.Named.{MayAsk}
 
--- States that if there is a command, then the bytes that were read contain a request for it, and
--- their Host header is accepted. States nothing without a command.
+-- States that a given command comes from a request in the bytes that were read, and that the Host
+-- header of these bytes is accepted. States nothing if no command is given.
 abbrev pub AskedBy : (names : List (List ℕ)) → (read : List ℕ) → Option Asked → Type 0
 AskedBy names read None = Unit {0}
 AskedBy names read (Some asked) = MayAsk names read × AsksOffice routes read asked
@@ -25,8 +25,8 @@ pub record Connection (names : List (List ℕ)) : Type 0 where
   pub asked : Option Asked
   pub asks : AskedBy names read asked
 
--- The history of accepted events after the program served a list of connections. The rules for
--- commands decide which of their commands add an event.
+-- The history of accepted events after the program served a list of connections. A connection's
+-- command adds an event if it is accepted; a refused command or a retry adds none.
 abbrev pub history_with : {names : List (List ℕ)} → (past : History) → List (Connection names)
     → History
 history_with past [] = past
@@ -40,16 +40,16 @@ AreTimed begun now [] = now ≡ begun
 AreTimed begun now (one ∷ earlier) =
     (between : Option (List ℕ)) × AreTimed begun between earlier × ReportsMoment between now one.at
 
--- True if the program's state is the state after the events of `past` and one HTTP connection that
--- was accepted at the time `at`.
+-- True if the program's state is the state after the events accepted before (`past`) and after one
+-- HTTP connection, which was accepted at the time `at`.
 pub record ServesOne {B : Type 0} (names : List (List ℕ)) (at : ℕ) (ledger : B → Ledger)
     (past : History) (office : Office B) : Type 0 where
   pub connection : Connection names
   pub moment : connection.at ≡ at
   pub stands : Stands ledger (with_asked past connection.at connection.asked) office
 
--- True if the program's state is the state after the events of `past` and at most `most` HTTP
--- connections.
+-- True if the program's state is the state after the events accepted before (`past`) and after at
+-- most `most` HTTP connections.
 --
 -- Each connection has the clock's time at its acceptance. If the store or memory failed, or the
 -- program refuses all events, then no command was executed on the connection.

@@ -1,5 +1,5 @@
 -- The effect of one call of `handle_named`, which tests the Host header of a request. If the host
--- is accepted, the call serves the request as `handle` does.
+-- is accepted, the call serves the request as the function `handle` does.
 use Rattle.std.specs.Prelude.{◌≡◌, ◌⊎◌, ℕ, true, false, List, ◌++◌, None, Result}
 use Rattle.std.specs.Io.KnownBytes.{Consumes}
 use Rattle.mb_wire.specs.declared.link.LinkFailed.{LinkFailed}
@@ -19,8 +19,9 @@ pub record IsFrontOf (front bytes : List ℕ) : Type 0 where
   pub rest : List ℕ
   pub is : bytes ≡ front ++ rest
 
--- True if some bytes pass the test of the Host header, and these bytes are a prefix or an extension
--- of `read`. Bytes pass if their head has an accepted host, or if they have no complete head.
+-- True if some bytes pass the test of the Host header, and are a prefix or an extension of `read`,
+-- the bytes read from the client. Bytes pass if their head has an accepted host, or if they have no
+-- complete head.
 pub record MayAsk (names : List (List ℕ)) (read : List ℕ) : Type 0 where
   pub tested : List ℕ
   pub same : IsFrontOf tested read ⊎ IsFrontOf read tested
@@ -36,8 +37,8 @@ pub record RepliesMisdirected (link : Passage) (result : Result (Unit {0}) Handl
     pub ends : result ≡ ended sent None
     pub gives : Gives sent link.given link.later_given (reply_bytes (fault Misdirected))
 
--- True if `handle_named` read until a head with a rejected Host header was complete, wrote the
--- response 421, and left the program's state unchanged.
+-- True if `handle_named` (which tests the Host header) read until a head with a rejected Host
+-- header was complete, wrote the response 421, and left the program's state unchanged.
 pub record TurnsAway {B : Type 0} (names : List (List ℕ)) (old new : Office B) (link : Passage)
     (read : List ℕ) (result : Result (Unit {0}) HandleFault) : Type 0 where
   pub head_state : HeadState
@@ -47,23 +48,23 @@ pub record TurnsAway {B : Type 0} (names : List (List ℕ)) (old new : Office B)
   pub replies : RepliesMisdirected link result
   pub unchanged : new ≡ old
 
--- True if `handle_named` read an accepted Host header or no complete head, and had the effect of
--- `handle`, which serves one request.
+-- True if `handle_named` (which tests the Host header) read an accepted Host header or no complete
+-- head, and had the effect of `handle`, which serves one request.
 pub record LetsAsk {B : Type 0} (names : List (List ℕ)) (ledger : B → Ledger) (at : ℕ)
     (old new : Office B) (link : Passage) (read : List ℕ) (result : Result (Unit {0}) HandleFault)
     : Type 0 where
   pub may : MayAsk names read
   pub does : Does ledger at old new link read result
 
--- True if memory for the request ran out, and `handle_named` executed nothing. The function did not
--- test the host, and wrote at most the response that memory ran out.
+-- True if memory for the request ran out, and `handle_named` (which tests the Host header) executed
+-- nothing. The function did not test the host, and wrote at most the response that memory ran out.
 pub record HasNoRoom {B : Type 0} (old new : Office B) (link : Passage) (read : List ℕ)
     (result : Result (Unit {0}) HandleFault) : Type 0 where
   pub does : DoesBare link read result
   pub unchanged : new ≡ old
 
--- True if the call of `handle_named` read bytes from the client's connection, and rejected the
--- host, served the request, or had no memory for it.
+-- True if the call of `handle_named` (which tests the Host header) read bytes from the client's
+-- connection. It then rejected the host, served the request, or had no memory for the request.
 pub record HandlesNamed {B : Type 0} (names : List (List ℕ)) (ledger : B → Ledger) (at : ℕ)
     (old new : Office B) (link : Passage) (result : Result (Unit {0}) HandleFault) : Type 0 where
   pub read : List ℕ

@@ -10,12 +10,12 @@ use Rattle.office_http.specs.declared.messages.ask.Ask.TheVariants.{Question, Co
 use Rattle.office_http.specs.declared.messages.post.Posted.{Posted}
 use Rattle.office_http.specs.declared.messages.status.Status.{Status}
 
--- True if the request target has this route and this value of the route's parameter.
+-- True if the request target has the given route and the given value of the route's parameter.
 pub record LeadsTo (table : Table) (start : Start) (found : Found) : Type 0 where
   pub route : route_in table start.target ≡ Some found.route
   pub name : name_of found ≡ name_in table start.target
 
--- True if the headers of a POST parse to this body size, client name and request number.
+-- True if the headers of a POST parse to the given body size, client name and request number.
 pub record Says (headers : PostHeaders) (posted : Posted) : Type 0 where
   pub size : size_in headers ≡ Some posted.size
   pub caller : caller_in headers ≡ Some posted.caller
@@ -27,7 +27,7 @@ abbrev pub TestsPost : PostHeaders → Result Posted Status → Type 0
 TestsPost headers (Ok posted) = (post_fault headers ≡ None) × Says headers posted
 TestsPost headers (Err status) = post_fault headers ≡ Some status
 
--- True if the route and the headers of the request head are those of this query or command.
+-- True if the route and the headers of the request head are those of the given query or command.
 abbrev pub AsksFor : Table → Start → Ask → Type 0
 AsksFor table start (Question found) = LeadsTo table start found × (is_question found.route ≡ true)
 AsksFor table start (Command found posted) =

@@ -9,7 +9,7 @@ abbrev pub row_text : FaultyRow → List ℕ
 row_text faulty =
     codes "[" ++ decimal faulty.row ++ codes "," ++ decimal (fault_number faulty.fault) ++ codes "]"
 
--- The JSON of faulty rows, each with a comma before it.
+-- The JSON of the faulty rows of a point list, each as `[ROW,FAULT]` with a comma before it.
 abbrev pub more_rows : List FaultyRow → List ℕ
 more_rows [] = []
 more_rows (faulty ∷ rows) = codes "," ++ row_text faulty ++ more_rows rows

@@ -11,8 +11,8 @@ use Rattle.office_http.specs.Messages.Tests.{first_failed, post_headers_of, post
 use Rattle.office_http.specs.declared.messages.status.Status.{Status}
 use Rattle.office_http.specs.declared.messages.status.Status.TheVariants.{NotFound, MethodNotAllowed}
 
--- The parts of a request's head that the tests read: its method, its target, and the name and value
--- of each header.
+-- The parts of a request's head by which the server accepts or rejects the request: its method, its
+-- target, and the name and value of each header.
 pub record Start : Type 0 where
   pub method : List ℕ
   pub target : List ℕ

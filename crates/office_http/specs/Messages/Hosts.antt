@@ -20,12 +20,12 @@ abbrev pub is_port : List ℕ → Bool
 is_port [] = true
 is_port (byte ∷ digits) = byte == 58 && list_all is_ascii_digit digits
 
--- True if the Host value is this name, in upper or lower case, with or without a port.
+-- True if the Host value is the given name, in upper or lower case, with or without a port.
 abbrev pub is_host : (name value : List ℕ) → Bool
 is_host name value =
     same_name (take (length name) value) name && is_port (drop (length name) value)
 
--- True if the Host value is one of the names, with or without a port.
+-- True if the Host value is one of the given names, with or without a port.
 abbrev pub is_among : (names : List (List ℕ)) → (value : List ℕ) → Bool
 is_among names value = list_any (λ name. is_host name value) names
 
@@ -35,13 +35,14 @@ abbrev pub is_known : (given : List (List ℕ)) → (value : List ℕ) → Bool
 is_known given value = is_among own_names value || is_among given value
 
 -- True if the program may serve a request by its Host header: the header is missing, or occurs once
--- with a known name. False for two Host headers (RFC 9112, section 3.2).
+-- with the name of this machine or a name in `given`. False for two Host headers (RFC 9112, section
+-- 3.2).
 abbrev pub may_ask_with : (given : List (List ℕ)) → Times → Bool
 may_ask_with given Missing = true
 may_ask_with given (Alone value) = is_known given value
 may_ask_with given Repeated = false
 
--- True if the program may serve a request with this head, by the head's Host header.
+-- True if the program may serve a request with the given head, by the head's Host header.
 abbrev pub may_ask : (given : List (List ℕ)) → Start → Bool
 may_ask given start = may_ask_with given (times (values_of (codes "host") start.headers))
 

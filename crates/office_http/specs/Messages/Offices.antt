@@ -9,8 +9,8 @@ use Rattle.office_events.specs.declared.questions.PollRow.{PollRow}
 use Rattle.office_events.specs.declared.refusals.Refusal.{Refusal}
 
 -- The program's answers at one time, to each query and to each command. The answer to an accepted
--- command is the command's kind, also for a duplicate request. A name is None if the request has no
--- valid name.
+-- command is the command's kind, also for a duplicate request. A query about a meter gets the
+-- meter's name, or None if the name in the request is invalid.
 pub record Office : Type 0 where
   pub meter : Option (List ℕ) → Result Installation Refusal
   pub poll : (number : ℕ) → Result PollRow Refusal

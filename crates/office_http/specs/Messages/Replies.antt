@@ -37,7 +37,7 @@ abbrev pub reply_bytes : Reply → List ℕ
 reply_bytes (Json status body) = json_reply status body
 reply_bytes (Lines lines) = text_head ++ lines
 
--- The JSON response with this status, for a request that fails a test before it is executed.
+-- The JSON response with the given status, for a request that fails a test before it is executed.
 abbrev pub fault : Status → Reply
 fault status = Json status (fault_text status)
 
@@ -46,8 +46,8 @@ fault status = Json status (fault_text status)
 abbrev pub refused : Refusal → Reply
 refused why = Json (status_of why) (refused_text (refusal_number why))
 
--- The response to a query for one object: the object as JSON, or an error response if the program
--- refused the query.
+-- The response to a query for one object, such as a meter or a poll: the object as JSON, or an
+-- error response if the program refused the query.
 abbrev pub row_reply : {X : Type 0} → (X → List ℕ) → Result X Refusal → Reply
 row_reply text (Ok row) = Json Fine (text row)
 row_reply text (Err why) = refused why
@@ -58,8 +58,8 @@ abbrev pub lines_reply : {X : Type 0} → (X → List ℕ) → Result X Refusal 
 lines_reply text (Ok rows) = Lines (text rows)
 lines_reply text (Err why) = refused why
 
--- The response to a query for the poll with this number. Without a valid number, the response is
--- "not found".
+-- The response to a query for the poll with the given number. Without a valid number, the response
+-- is "not found".
 abbrev pub poll_reply : Office → Option ℕ → Reply
 poll_reply office None = refused refusal.NotFound
 poll_reply office (Some number) = row_reply poll_text (office.poll number)
@@ -112,7 +112,7 @@ asked_of start body command =
 abbrev pub ask : Office → Start → (body : List ℕ) → Command → Result CommandKind Refusal
 ask office start body command = office.asked (asked_of start body command)
 
--- The response to a request with this route whose head passes all tests.
+-- The response to a request with the given route whose head passes all tests.
 abbrev pub route_reply : Office → Start → (body : List ℕ) → Result Command CommandFault → Route
     → Option (List ℕ) → Reply
 route_reply office start body given route.Meter taken = question_reply office route.Meter taken
@@ -122,7 +122,8 @@ route_reply office start body given route.Intervals taken =
 route_reply office start body given route.Days taken = question_reply office route.Days taken
 route_reply office start body given _ taken = command_reply (ask office start body) given
 
--- The response to a request with this route. For a request without a route, the response is 404.
+-- The response to a request with the given route. For a request without a route, the response is
+-- 404.
 abbrev pub found_reply : Office → Start → (body : List ℕ) → Result Command CommandFault
     → Option Route → Option (List ℕ) → Reply
 found_reply office start body given None taken = fault NotThere
@@ -135,8 +136,8 @@ abbrev pub unless_failed : Option Status → Reply → Reply
 unless_failed None reply = reply
 unless_failed (Some status) reply = fault status
 
--- The response to a request with this head and this body. `given` is the command in the body, or
--- the fault of the body.
+-- The response to a request with a given head and body. `given` is the command in the body, or the
+-- fault of the body.
 abbrev pub reply_of : Office → Table → Start → (body : List ℕ) → Result Command CommandFault → Reply
 reply_of office table start body given =
     unless_failed (head_fault table start)

@@ -22,8 +22,8 @@ says_cross_site Repeated = true
 abbrev pub is_cross_site : Start → Bool
 is_cross_site start = says_cross_site (times (values_of (codes "sec-fetch-site") start.headers))
 
--- True if the head in these bytes says that a page of another site sent the request. False for
--- bytes without a complete head.
+-- True if the request head in the received bytes says that a page of another site sent the request.
+-- False for bytes without a complete head.
 abbrev pub is_cross_site_in : List ℕ → HeadState → Bool
 is_cross_site_in bytes Open = false
 is_cross_site_in bytes TooLarge = false

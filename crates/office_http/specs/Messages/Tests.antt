@@ -44,7 +44,8 @@ value_in Missing = None
 value_in (Alone value) = Some value
 value_in Repeated = None
 
--- The headers of a POST that the tests read.
+-- The headers that are checked in a POST request (a command): `Transfer-Encoding`,
+-- `Content-Length`, `Office-Caller` and `Office-Request`.
 pub record PostHeaders : Type 0 where
   pub transfer : Times
   pub size : Times
@@ -64,7 +65,7 @@ post_headers_of headers = record {
 abbrev pub size_in : PostHeaders → Option ℕ
 size_in headers = option_and_then digits_in (value_in headers.size)
 
--- The value of Office-Caller, if it is a valid name.
+-- The value of the HTTP header `Office-Caller`, if it is a valid name.
 abbrev pub caller_in : PostHeaders → Option (List ℕ)
 caller_in headers = option_and_then named (value_in headers.caller)
 

@@ -18,8 +18,8 @@ use Rattle.office_http.specs.Messages.Offices.{Office}
 use Rattle.office_http.specs.Messages.Replies.{ask, command_reply, fault, reply_bytes, reply_of}
 use Rattle.office_http.specs.Messages.Requests.{name_asked}
 
--- True if the head of the request passes all tests, and the request's target has this route, which
--- is the route of a command.
+-- True if the head of the request passes all tests, and the request's target has the given route,
+-- which is the route of a command.
 pub record IsCommand (table : Table) (start : Start) (route : Route) : Type 0 where
   pub passes : head_fault table start ≡ None
   pub leads : route_in table start.target ≡ Some route

@@ -21,8 +21,8 @@ use Rattle.office_http.specs.Messages.WholeResponses.{IsCommand, IsReply}
 use Rattle.office_http.specs.declared.wants.kinds.Want.{Want}
 use Rattle.office_http.specs.declared.wants.kinds.Want.TheVariants as want
 
--- True if the bytes have a request for this command: its head passes all tests, and its body
--- contains the command.
+-- True if the received bytes have a request for the given command: its head passes all tests, and
+-- its body contains the command.
 pub record AsksOffice (table : Table) (bytes : List ℕ) (asked : Asked) : Type 0 where
   pub start : Start
   pub body : List ℕ
@@ -33,26 +33,26 @@ pub record AsksOffice (table : Table) (bytes : List ℕ) (asked : Asked) : Type 
   pub gives : Gives route (name_asked (name_in table start.target)) body (Ok command)
   pub is : asked ≡ asked_of start body command
 
--- True if the bytes have no request for any command.
+-- True if the received bytes have no request for any command.
 abbrev pub AsksNothing : Table → (bytes : List ℕ) → Type 0
 AsksNothing table bytes = (asked : Asked) → AsksOffice table bytes asked → ⊥
 
--- True if the bytes have no request for a command, and `text` is their response whatever the
--- program answers to queries and commands.
+-- True if the received bytes have no request for a command, and `text` is the response to them,
+-- whatever the program answers to queries and commands.
 pub record IsReportedOff (table : Table) (bytes text : List ℕ) : Type 0 where
   pub nothing : AsksNothing table bytes
   pub reply : (office : Office) → IsReply office table bytes text
 
--- True if the bytes have a request with this query, and the response is the program's answer to the
--- query.
+-- True if the received bytes have a request with the given query, and the response is the program's
+-- answer to the query.
 pub record IsQuestion (table : Table) (bytes : List ℕ) (found : Found) : Type 0 where
   pub asks : is_question found.route ≡ true
   pub nothing : AsksNothing table bytes
   pub reply : (office : Office)
       → IsReply office table bytes (reply_bytes (question_reply office found.route (name_of found)))
 
--- True if the bytes have a request for this command, and the response is the program's answer to
--- the command.
+-- True if the received bytes have a request for the given command, and the response is the
+-- program's answer to the command.
 pub record IsAskedFor (table : Table) (bytes : List ℕ) (asked : Asked) : Type 0 where
   pub asks : AsksOffice table bytes asked
   pub reply : (office : Office)
@@ -63,8 +63,8 @@ pub record IsAskedFor (table : Table) (bytes : List ℕ) (asked : Asked) : Type 
 abbrev pub IsNoCommand : Table → (bytes : List ℕ) → CommandFault → Type 0
 IsNoCommand table bytes why = (why ≡ Memory) ⊎ IsReportedOff table bytes (reply_bytes (fault_said why))
 
--- True if the request in the bytes has this query or this command, or has neither because of a
--- failed test or a faulty body.
+-- True if the parsed result is that of the HTTP request in the received bytes: a query, a command,
+-- or a rejection. The request is rejected if a check of its head fails or its body is faulty.
 abbrev pub Wants : Table → (bytes : List ℕ) → Want → Type 0
 Wants table bytes (want.Rejected status) = IsReportedOff table bytes (reply_bytes (fault status))
 Wants table bytes (want.Answer found) = IsQuestion table bytes found

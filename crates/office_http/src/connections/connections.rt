@@ -86,10 +86,11 @@ where
     Ok(())
 }
 
-/// Serves requests as [`serve_connections`] does, and accepts only the host names of this machine.
+/// Serves HTTP requests on `connections` connections, one after the other, with one request on each
+/// connection. Accepts only the host names of this machine.
 ///
-/// The call uses the clock for timestamps only. Connections have no deadline, but each socket call
-/// waits for at most a second.
+/// `serve_on` uses `clock` only for the timestamps of HTTP requests. Connections have no deadline,
+/// but each socket call waits for at most a second.
 pub fn serve_on<L: OpenListener, B: Books, C: Clock>(
     alloc: Global,
     listener: &L,

@@ -68,12 +68,13 @@ fn serve_named<L: Link, B: Books>(
     reply(inbox.bytes(), want, link, office, moment)
 }
 
-/// Serves one request as [`handle`](crate::exchange::handle) does, if its `Host` header is
-/// accepted.
+/// Reads one request from a client's connection, and executes it if its `Host` header is accepted.
+/// Then writes the response.
 ///
-/// The header is accepted if it names this machine or one of `names`, or is missing. Any other
-/// request gets status 421 as soon as its head has arrived, before all other tests. If memory runs
-/// out for a request, the response reports the lack of memory, and the host is not tested.
+/// The `Host` header of an HTTP request is accepted if it names this machine or one of `names`, or
+/// is missing. Any other request gets status 421 as soon as its head has arrived, before all other
+/// tests. If memory runs out for a request, the response reports the lack of memory, and the host
+/// is not tested.
 pub fn handle_named<L: Link, B: Books>(
     alloc: Global,
     names: &[&str],

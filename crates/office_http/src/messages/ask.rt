@@ -30,8 +30,8 @@ fn has_method(route: Route, method: &[u8]) -> bool
 /// Tests a request's head, and returns the query or command, or the status of the first failed
 /// test.
 ///
-/// The tests are in this order: the route (404), the method (405), and for a command the headers
-/// that [`post_headers`] tests.
+/// The tests of a request's head are in this order: the route (404), the method (405), and for a
+/// command the headers that [`post_headers`] tests.
 pub fn ask_of<'b>(router: &Router<Route>, bytes: &'b [u8], head: &Head) -> Result<Ask<'b>, Status>
     requires text { IsUtf8 (span_bytes bytes.now head.now.target) }
     requires placed { IsPlaced bytes.now head.now }

@@ -87,7 +87,7 @@ fn has_known_host(given: &[&str], bytes: &[u8], head: &Head) -> bool
 
 /// Returns whether the program serves a request, by its `Host` header (RFC 9110, section 7.2).
 ///
-/// The header may be missing. Otherwise the request has it once, with the value `127.0.0.1`,
+/// The `Host` header may be missing. Otherwise the request has it once, with the value `127.0.0.1`,
 /// `localhost`, `[::1]` or a name in `given`. The value may be in upper or lower case, and may have
 /// any port. This test rejects requests from web pages of a foreign host name that resolves to this
 /// machine (DNS rebinding). Bytes without a complete head pass this test.

@@ -1,4 +1,4 @@
-//! The tests of the headers of a POST request.
+//! The checks that the HTTP headers of a POST request must pass.
 ghost use Rattle.std.specs.Prelude.{◌≡◌, length, map, All};
 ghost use Rattle.httparse.specs.Spans.{IsHeaderWithin, header_bytes};
 ghost use Rattle.office_http.specs.Messages.Asking.{TestsPost};
@@ -84,14 +84,14 @@ fn test_headers(
 
 /// Parses the headers of a POST request, or returns the status of the first failed test.
 ///
-/// The tests, in order:
+/// The tests of the headers, each with the status of the response if it fails, in order:
 ///
-/// - 400 for `Transfer-Encoding`, or for a repeated `Content-Length`, `Office-Caller` or
+/// - status 400 for `Transfer-Encoding`, or for a repeated `Content-Length`, `Office-Caller` or
 ///   `Office-Request`;
-/// - 411 without `Content-Length`;
-/// - 400 for a `Content-Length` that is not a number of at most 19 digits;
-/// - 413 for a `Content-Length` above 65,536 bytes;
-/// - 400 for a missing or malformed `Office-Caller` or `Office-Request`.
+/// - status 411 without `Content-Length`;
+/// - status 400 for a `Content-Length` that is not a number of at most 19 digits;
+/// - status 413 for a `Content-Length` above 65,536 bytes;
+/// - status 400 for a missing or malformed `Office-Caller` or `Office-Request`.
 pub fn post_headers(bytes: &[u8], headers: &[HeaderSpan]) -> Result<Posted, Status>
     requires within { All (IsHeaderWithin (length bytes.now)) headers.now }
     ensures { TestsPost (post_headers_of (map (header_bytes bytes.now) headers.now)) result }

@@ -44,7 +44,8 @@ pub fn write_done<L: Link>(answer: Result<CommandKind, Refusal>, writer: &mut Re
 }
 
 /// Writes the response to a request whose body contains no valid command. `Malformed` gets status
-/// 400, `Negative` and `Faulty` get 422, and `Memory` gets 503.
+/// 400. `Negative` (a negative number) and `Faulty` (a faulty point list) get 422, and `Memory`
+/// gets 503.
 pub fn write_command_fault<L: Link>(fault: &CommandFault, writer: &mut ResponseWriter<'_, L>)
     requires { HasFewRows (Err fault.now) }
     ensures { Puts writer.old writer.new (reply_bytes (fault_said fault.now)) }

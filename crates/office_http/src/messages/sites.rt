@@ -22,8 +22,8 @@ fn says_cross_site(bytes: &[u8], head: &Head) -> bool
 /// Returns whether a page of another site made a browser send the request, by `Sec-Fetch-Site`
 /// (W3C, Fetch Metadata Request Headers, section 2.3).
 ///
-/// The result is true for a repeated header, since no browser repeats `Sec-Fetch-Site`. The result
-/// is false for bytes without a complete head.
+/// Returns true if the header `Sec-Fetch-Site` is repeated, since no browser repeats it. Returns
+/// false for bytes without a complete request head.
 pub fn is_cross_site(bytes: &[u8], head_state: &HeadState) -> bool
     requires { Looks bytes.now head_state.now }
     ensures { result ≡ sites.is_cross_site_in bytes.now head_state.now }

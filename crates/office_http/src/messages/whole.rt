@@ -24,8 +24,8 @@ use mb_wire::Link;
 /// The size in bytes of a buffer that is large enough for any request.
 pub const MOST_ROOM: usize = MOST_BYTES + MOST_BODY;
 
-// Returns the size in bytes of the body that follows a head: 0 for a query or a head that fails a
-// test.
+// Returns the size in bytes of the request body that follows a head. The size is 0 if the request
+// is a query, or if the program rejects the request by its head.
 fn body_size(router: &Router<Route>, bytes: &[u8], head: &Head) -> usize
     requires text { IsUtf8 (span_bytes bytes.now head.now.target) }
     requires placed { IsPlaced bytes.now head.now }
@@ -39,9 +39,10 @@ fn body_size(router: &Router<Route>, bytes: &[u8], head: &Head) -> usize
 }
 
 /// Reads from a client's connection until the buffer has a complete request or an invalid head. The
-/// returned state is never `Open`.
+/// returned state is never `Open` (an incomplete head).
 ///
-/// Fails with the cause if a read fails, the input ends, or the buffer has made 100,000 reads.
+/// Reading a request fails if a read from the client's connection fails, the input ends, or the
+/// buffer has made 100,000 reads. The error says which of these causes occurred.
 pub fn read_request<L: Link>(
     router: &Router<Route>,
     inbox: &mut Inbox<'_>,

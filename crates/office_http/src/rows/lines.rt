@@ -55,8 +55,8 @@ impl<'l, L: Link> RowLines<'l, L> {
 
     /// Ends the report with the number of its rows, or with a refusal of the query.
     ///
-    /// A refusal before the first row becomes the response. A refusal after a row cuts the response
-    /// off, and nothing more is written.
+    /// A refusal of the query before the first row becomes the response. A refusal after a row cuts
+    /// the response off, and nothing more is written.
     pub fn finish_report(self, answer: Result<(), Refusal>) -> Replied<'l, L>
         ensures { EndsReport self.entry answer result.writer result.cut }
     {

@@ -7,7 +7,7 @@ use office_events::Asked;
 pub enum Want<'b> {
     /// No query or command: the head of the request fails a test.
     Rejected(Status),
-    /// A query to execute.
+    /// The request is a query, which the program executes.
     Answer(Found<'b>),
     /// No command: the body of the request has a fault, or memory ran out.
     Refused(CommandFault),

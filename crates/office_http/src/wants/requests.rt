@@ -1,4 +1,4 @@
-//! Parses a complete request into a query or command.
+//! Parses a complete HTTP request into a query or command.
 ghost use Rattle.std.specs.Prelude.{◌≡◌, ◌⊎◌, Ok, Err};
 ghost use Rattle.office_http.specs.Messages.Asking.{TestsHead};
 ghost use Rattle.office_http.specs.Messages.HeadTests.{start_at};

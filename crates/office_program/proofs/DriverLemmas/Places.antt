@@ -1,10 +1,12 @@
--- Properties of a change of the polling round in one slot (an index in the list of rounds).
+-- Lemma: if the polling round in one slot (an index in the list of rounds) is replaced, then only
+-- the round in this slot changes.
 use Rattle.std.proofs.Common.{◌≡◌, ℕ, ◌<◌, ◌≤◌, zero, suc, List, [], ◌∷◌, length, set, get_or, Some, None, refl, ap, arith}
 use Rattle.std.specs.Prelude.{slice_get}
 use Rattle.office_program.specs.declared.device_rounds.round.Round.{Round}
 use Rattle.office_program.specs.Driver.Turns.{at_place}
 
--- If the polling round in slot `place` is replaced, then only the round in this slot changes.
+-- If the polling round in slot `place` (the index in the list of rounds) is replaced, then only the
+-- round in this slot changes.
 pub set_at_place : (rounds : List Round) (place : ℕ) (change : Round → Round) (d : Round) → place < length rounds
     → set rounds place (change (get_or rounds place d)) ≡ at_place place change rounds
 set_at_place [] place change d h = absurd (omega arith)
@@ -12,8 +14,8 @@ set_at_place (round ∷ rounds) zero change d h = refl
 set_at_place (round ∷ rounds) (suc place) change d h =
     let less : place < length rounds = omega (arith, h) in ap (λ xs. round ∷ xs) (set_at_place rounds place change d less)
 
--- If no slot `place` exists, then a change of the round in this slot leaves the list of polling
--- rounds unchanged.
+-- If no polling round has the index `place`, then a change of the round with this index leaves the
+-- list of polling rounds unchanged.
 pub at_no_place : (rounds : List Round) (place : ℕ) (change : Round → Round) → length rounds ≤ place → at_place place change rounds ≡ rounds
 at_no_place [] place change h = refl
 at_no_place (round ∷ rounds) zero change h = absurd (omega (arith, h))

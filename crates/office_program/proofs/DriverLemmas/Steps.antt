@@ -1,5 +1,5 @@
--- Properties of a call of the function `turn`, which feeds events to the office (the event engine)
--- one by one.
+-- Lemmas on the function `turn`, which feeds events to the office (the event engine) one by one.
+-- After each event, the state follows from all events that were fed.
 use Rattle.std.proofs.Common.{◌≡◌, inl, inr, ℕ, ◌+◌, ◌≤◌, List, [], ◌∷◌, map, length, Option, Some, None, Result, refl, sym, ap, ◌∙◌, subst, arith}
 use Rattle.office_events.specs.declared.answers.Answer.{Answer}
 use Rattle.office_events.specs.declared.answers.Note.{Note}
@@ -45,8 +45,8 @@ next_shown sees old new next place at e answer notes now frames out is notes_are
     ∙ ap (λ p. shown p at e answer now out) (sym (ap place_of is)))
     h
 
--- After a call of `turn` fed its next event to the event engine, the engine and the polling rounds
--- are in the state after it. The observer was shown the event.
+-- After a call of `turn` (which processes one device event) fed its next event, the event engine
+-- and the polling rounds are in the state after this event. The observer got a report of the event.
 pub feeds_next : {B V : Type 0} (ledger : B → Ledger) (sees : V → Shown → V → Type 0) (at : ℕ) (place : Option ℕ) (e : Event)
     (answer : Result Answer Refusal) (old new : Scene B V) (mid : List Round) (notes : List Note) (frames : List ℕ)
     → ((past : History) → Stands ledger past old.office → (ledger (books_in new.office)).is_clean
@@ -73,8 +73,8 @@ feeds_next ledger sees at place e answer old new mid notes frames feeds mid_is n
       },
     )
 
--- The loop invariant of the function `turn`: the call has fed at least `steps` events to the event
--- engine, and the present state follows from these events.
+-- The loop invariant of the function `turn` (which processes one device event): the call has fed at
+-- least `steps` events to the event engine, and the present state follows from these events.
 pub record GoesFar {B V : Type 0} (ledger : B → Ledger) (sees : V → Shown → V → Type 0) (at steps : ℕ) (past : History) (begun : Start V)
     (now : Scene B V) : Type 0 where
   pub fed : List Answered
@@ -130,8 +130,8 @@ turns_on ledger sees at past old new goes stands clean =
     let so = goes past (start old.failures (table None old.rounds) old.observer) [] (begins ledger sees at past None old stands) clean in
     record { fed = so.0; going = so.1; settled = so.2 }
 
--- If a call of `turn` has a device event for the event engine, it first feeds this event to the
--- engine. Then it feeds the events that polling rounds generate.
+-- If a call of `turn` (which processes one device event) has a device event for the event engine,
+-- it first feeds this event to the engine. Then it feeds the events that polling rounds generate.
 pub turns_first : {B V : Type 0} (ledger : B → Ledger) (sees : V → Shown → V → Type 0) (at : ℕ) (past : History) (one : Wished) (old mid new : Scene B V)
     → FeedsNext ledger sees at one old mid → OfficeGoesOn ledger sees at mid new
     → ((ledger (books_in new.office)).is_clean → (ledger (books_in mid.office)).is_clean) → Stands ledger past old.office
@@ -143,8 +143,8 @@ turns_first ledger sees at past one old mid new feeds goes lasts stands clean =
     let so = goes past begun (fed.0 ∷ []) fed.1 clean in
     record { fed = so.0; going = so.1; settled = so.2 }
 
--- If `TakesTurn`, the contract of `turn`, holds for a state at the start of a call, then the
--- contract holds for an equal state.
+-- If `TakesTurn`, the contract of `turn` (which processes one device event), holds for a state at
+-- the start of a call, then the contract holds for an equal state.
 pub turns_as : {B V : Type 0} (ledger : B → Ledger) (sees : V → Shown → V → Type 0) (at : ℕ) (past : History) (failures : Failures) (one other : Table) (observer : V)
     (new : Scene B V) → one ≡ other → TakesTurn ledger sees past (start failures one observer) at new
     → TakesTurn ledger sees past (start failures other observer) at new

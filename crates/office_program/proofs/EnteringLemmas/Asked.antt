@@ -41,8 +41,8 @@ use Rattle.office_program.specs.declared.entering.files.Shown.{Shown}
 use Rattle.office_program.specs.declared.entering.read_line.ReadRequest.{ReadRequest}
 use Rattle.office_program.specs.Entering.Lines.{IsEntry, ReadsEntry, Reporting}
 
--- The text that the program prints for the event engine's answer equals the text that the contract
--- defines for this answer.
+-- The text that the program prints for the event engine's answer equals `reported_text`, the text
+-- that the specification defines for this answer.
 reported_is : {B : Type 0} (office : Office B) (past : History) (at : ℕ) (e : Event) (reply : Result Answer Refusal) → IsReported past at e reply office
     → reported_text office reply ≡ reply_text past at e reply
 reported_is office past at e (Ok given) reported =
@@ -79,8 +79,8 @@ asked ledger past progress before after had holds office at e reply result text 
       next = next;
     }
 
--- If a request needs no confirmation, then it was fed to the event engine, as the contract
--- `HasAsked` requires.
+-- If a request needs no confirmation, then it was fed to the event engine, as `HasAsked` (the
+-- contract for the request of an input line) requires.
 pub undoubted : {B : Type 0} (ledger : B → Ledger) (past : History) (progress : Progress) (begun now : RoundState) (office : Office B) (at : ℕ) (request : Request)
     (between : Failures) (result : Result Progress Error) → IsAskedAt progress.latest begun.moments now.moments at
     → doubt_of (facts_of past) at request ≡ None → between ≡ begun.failures
@@ -106,7 +106,8 @@ undoubted ledger past progress begun now office at request between result timed 
     }
 
 -- If a request needs a confirmation, then it was not fed to the event engine, and only the energy
--- of its entry was printed. So the contract `HasAsked` holds.
+-- of its manual entry was printed. So `HasAsked` holds, the contract for the request of an input
+-- line.
 pub doubted : {B : Type 0} (ledger : B → Ledger) (past : History) (progress : Progress) (begun now : RoundState) (office : Office B) (at mwh : ℕ) (request : Request)
     (result : Result Progress Error) → IsAskedAt progress.latest begun.moments now.moments at → Stands ledger past office
     → doubt_of (facts_of past) at request ≡ Some mwh → now.failures ≡ begun.failures → ReportsWhyNot (doubted_line mwh) at begun.printed now.printed result
@@ -122,7 +123,8 @@ doubted ledger past progress begun now office at mwh request result timed stands
 }
 
 -- If the event engine could not answer whether a request needs a confirmation, then the request was
--- not fed, and the refusal was printed. So the contract `HasAsked` holds.
+-- not fed, and the refusal was printed. So `HasAsked` holds, the contract for the request of an
+-- input line.
 pub undecided : {B : Type 0} (ledger : B → Ledger) (past : History) (progress : Progress) (begun now : RoundState) (office : Office B) (at : ℕ) (request : Request)
     (reason : Refusal) (result : Result Progress Error) → IsAskedAt progress.latest begun.moments now.moments at → Stands ledger past office
     → IsOutside ⊥ begun.failures now.failures reason → ReportsWhyNot (refused_line reason) at begun.printed now.printed result
@@ -168,8 +170,8 @@ read_come ledger reports read shown request past progress begun now office resul
     let both = read_comes reports (facts_of past) read shown.raw shown.sf done.came (subst P same done.comes) (shown, is, refl) in
     record { came = done.came; comes = both.0; shown = both.1; takes = done.takes }
 
--- If the counter for an input line with `@read` (the reading's placeholder) can't be read, then the
--- line makes no request.
+-- If the counter for an input line with `@read` (the reading's placeholder) can't be read from the
+-- device, then the line makes no request.
 pub unread : {B : Type 0} (ledger : B → Ledger) (reports : Reporting) (read : ReadRequest) (past : History) (progress : Progress) (begun now : RoundState) (office : Office B)
     (at : ℕ) (result : Result Progress Error) → IsAskedAt progress.latest begun.moments now.moments at → Stands ledger past office
     → IsShownFor reports (facts_of past) read None → now.failures ≡ begun.failures → ReportsWhyNot unread_line at begun.printed now.printed result
@@ -185,8 +187,8 @@ unread ledger reports read past progress begun now office at result timed stands
   };
 }
 
--- If the event engine refused the query for the counter of an input line with `@read` (the
--- reading's placeholder), then the line makes no request.
+-- Suppose that an input line has `@read`, the placeholder that a reading of the counter replaces.
+-- If the event engine refused the query for the counter, then the line makes no request.
 pub unknown : {B : Type 0} (ledger : B → Ledger) (reports : Reporting) (read : ReadRequest) (past : History) (progress : Progress) (begun now : RoundState) (office : Office B)
     (at : ℕ) (reason : Refusal) (result : Result Progress Error) → IsAskedAt progress.latest begun.moments now.moments at → Stands ledger past office
     → IsOutside ⊥ begun.failures now.failures reason → ReportsWhyNot (refused_line reason) at begun.printed now.printed result

@@ -20,8 +20,8 @@ use Rattle.office_program.specs.Entering.Course.{AreAnswered, AreTaken, AreTimed
 use Rattle.office_program.specs.Entering.Entered.{EntersLines, IsStopped, status_of}
 use Rattle.office_program.specs.Entering.Lines.{Reporting}
 
--- The state of a command between two lines of its input: some lines were processed, and the lines
--- `rest` remain.
+-- The state of a command that enters an input (a text of request lines), between two of its lines:
+-- some lines were processed, and the lines `rest` remain.
 pub record Underway {B : Type 0} (ledger : B → Ledger) (reports : Reporting) (caller : Option (List ℕ)) (lines rest : List Line) (past : History) (first : ℕ)
     (begun now : RoundState) (progress : Progress) (office : Office B) : Type 0 where
   pub taken : List Taken
@@ -30,8 +30,8 @@ pub record Underway {B : Type 0} (ledger : B → Ledger) (reports : Reporting) (
   pub printed : Appends begun.printed now.printed (text_after past taken)
   pub come : progress ≡ progress_of first taken
 
--- Before the first line of an input, no line was processed and nothing was printed, so the loop
--- invariant `Underway` holds.
+-- Before the first line of an input (a text of request lines), no line was processed and nothing
+-- was printed, so the loop invariant `Underway` holds.
 pub begins : {B : Type 0} (ledger : B → Ledger) (reports : Reporting) (caller : Option (List ℕ)) (lines rest : List Line) (past : History) (first : ℕ)
     (begun : RoundState) (progress : Progress) (office : Office B) → Stands ledger past office → rest ≡ lines → progress ≡ progress_of first []
     → Underway ledger reports caller lines rest past first begun begun progress office
@@ -43,8 +43,8 @@ begins ledger reports caller lines rest past first begun progress office stands 
   come = come;
 }
 
--- If a list of input lines was processed and then one more line, then the contract `AreTaken` holds
--- for the list with this line.
+-- If a list of input lines was processed and then one more line, then the contract `AreTaken` (for
+-- processed lines) holds for the list with this line.
 adds : {B : Type 0} (ledger : B → Ledger) (reports : Reporting) (caller : Option (List ℕ)) (past : History) (first : ℕ) (begun was now : RoundState)
     (old new : Office B) (taken : List Taken) (line : Line) (came : Came) → AreTaken ledger reports caller past first begun was old taken → Comes reports caller (history_with past taken) line.text came
     → Takes ledger (history_with past taken) (progress_of first taken).latest was now new came
@@ -100,8 +100,8 @@ then_nothing : (a b c : Option (List ℕ)) (x : List ℕ) → Appends a b x → 
 then_nothing a b c x whole none =
     (x ++ [], [], sym (append-nil x) ∙ sym (append-nil (x ++ [])), Appends-trans a b c x [] whole none)
 
--- If a line is bad or a failure ends the command, then the result of entering the input satisfies
--- `EntersLines`, the contract for all lines.
+-- If an input line is bad or a failure ends the command, the result of entering the input (a text
+-- of request lines) satisfies `EntersLines`, its contract.
 pub ends_early : {B : Type 0} (ledger : B → Ledger) (reports : Reporting) (caller : Option (List ℕ)) (lines rest left : List Line) (past : History) (first : ℕ)
     (begun was now : RoundState) (progress : Progress) (old new : Office B) (line : Line) (status : ExitStatus)
     → (under : Underway ledger reports caller lines rest past first begun was progress old) → rest ≡ line ∷ left
@@ -163,8 +163,8 @@ ends_early ledger reports caller lines rest left past first begun was now progre
       }));
     }
 
--- If the last line was processed, then the result of entering the input satisfies `EntersLines`,
--- the contract for all lines.
+-- If the last input line was processed, then the result of entering the input (a text of request
+-- lines) satisfies `EntersLines`, the contract for all lines.
 pub ends_whole : {B : Type 0} (ledger : B → Ledger) (reports : Reporting) (caller : Option (List ℕ)) (lines rest : List Line) (past : History) (first : ℕ)
     (begun now : RoundState) (progress : Progress) (office : Office B) (status : ExitStatus)
     → Underway ledger reports caller lines rest past first begun now progress office → rest ≡ [] → status ≡ status_of progress

@@ -1,5 +1,5 @@
--- Proof that the program computes as defined whether a manual entry is doubted (needs a
--- confirmation).
+-- Proof that the program computes correctly, by the specification, whether a manual entry is
+-- doubted (needs a confirmation).
 use Rattle.std.proofs.Common.{◌≡◌, inl, inr, ℕ, ◌-◌, ◌*◌, nat_le, Bool, true, false, List, Option, Some, None, Result, Ok, Err, refl, sym, ap, subst, ◌∙◌, arith}
 use Rattle.std.specs.Prelude.{if◌then◌else◌, is_some}
 use Rattle.std.specs.Option.{option_and_then}
@@ -62,7 +62,8 @@ row_failed None before after why other (inl reported) = let same = reported.0 in
 row_failed (Some y) before after why other (inl reported) = let never = reported.0 in absurd (cc never)
 row_failed found before after why other (inr fails) = fails
 
--- Lemmas on the open (not closed) meter of an accounting register (a named counter).
+-- Lemmas: the open (not closed) meter of the accounting register (a named counter) decides whether
+-- a manual entry needs a confirmation. Without such a meter, the entry needs none.
 
 pub sound_there : (facts : List Fact) (register : Option (List ℕ)) (row : Installation) → AreInRange facts
     → option_and_then (installation_at facts) register ≡ Some row → IsSound row
@@ -70,7 +71,8 @@ sound_there facts None row ranges found = absurd (cc found)
 sound_there facts (Some name) row ranges found = ranges.at_register name row found
 
 -- Whether a manual entry needs a confirmation depends on the meter that was found for the
--- accounting register. If no meter was found, the entry needs no confirmation.
+-- accounting register (a named energy counter). If no meter was found, the entry needs no
+-- confirmation.
 pub found_doubt : (facts : List Fact) (at : ℕ) (c : Command) (register : Option (List ℕ)) (row : Installation)
     → option_and_then (installation_at facts) register ≡ Some row → doubted_in facts at c register ≡ option_and_then (doubted_at at c) (if_open row)
 found_doubt facts at c None row found = cc found
@@ -81,14 +83,15 @@ pub no_doubt_there : (facts : List Fact) (at : ℕ) (c : Command) (register : Op
 no_doubt_there facts at c None found = refl
 no_doubt_there facts at c (Some name) found = ap (λ (o : Option Installation). option_and_then (doubted_at at c) (option_and_then if_open o)) found
 
--- Lemmas on whether the manual entry in a request needs a confirmation.
+-- Lemmas: the cases in which the manual entry in a request needs a confirmation, and those in which
+-- it needs none.
 
 none_either : (b : Bool) (o : Option ℕ) → o ≡ None → (if b then None else o) ≡ None
 none_either true o none = refl
 none_either false o none = none
 
--- If a request is already stored, or its line has the mark ` !`, or it makes no manual entry, then
--- the request needs no confirmation.
+-- If a request is already stored, or its line has the mark ` !` (a confirmation), or it makes no
+-- manual entry, then the request needs no confirmation.
 pub kept_undoubted : (facts : List Fact) (at : ℕ) (asked : Asked) (repeat : Repeat) → repeat_in facts asked ≡ Some repeat → doubt_of facts at asked ≡ None
 kept_undoubted facts at asked repeat kept = cond-true (is_some (repeat_in facts asked)) None _ (ap is_some kept)
 
@@ -105,16 +108,16 @@ entryless_undoubted facts at asked none =
     none_either (is_some (repeat_in facts asked)) _
     (none_either (is_marked asked.request) _ (entryless facts at asked.command (corrected_at asked.command) none))
 
--- Suppose that a request is not stored yet, and its line has no mark ` !`. Then the request needs a
--- confirmation exactly if its manual entry needs a confirmation.
+-- Suppose that a request is not stored yet, and its line has no mark ` !` (a confirmation). Then
+-- the request needs a confirmation exactly if its manual entry needs a confirmation.
 pub doubt_is : (facts : List Fact) (at : ℕ) (asked : Asked) → repeat_in facts asked ≡ None → is_marked asked.request ≡ false
     → doubt_of facts at asked ≡ doubted_in facts at asked.command (corrected_at asked.command)
 doubt_is facts at asked new unmarked =
     cond-false (is_some (repeat_in facts asked)) None _ (ap is_some new) ∙ cond-false (is_marked asked.request) None _ unmarked
 
--- Lemmas on the event engine's answer to the query whether an entry needs a confirmation.
+-- Lemmas on the event engine's answer to the query whether a manual entry needs a confirmation.
 
--- Suppose that a first query did not fail. If a second query answers whether an entry needs a
+-- Suppose that a first query did not fail. If a second query answers whether a manual entry needs a
 -- confirmation, then the answer is also correct for the state before the first query.
 pub reported_on : {B : Type 0} (ledger : B → Ledger) (past : History) (before between after : Failures) (office : Office B) (doubt other : Option ℕ)
     (result : Result (Option ℕ) Refusal) → between ≡ before → doubt ≡ other → IsDoubtReported ledger past between after office doubt result

@@ -1,5 +1,5 @@
--- Properties of the result of a command that opens an office (the event engine) and enters an
--- input.
+-- Proofs that a command that opens an office (the event engine) and enters an input (a text of
+-- request lines) satisfies its contract `ReportsEntering`.
 use Rattle.std.proofs.Common.{◌≡◌, inl, inr, ℕ, List, [], ◌∷◌, Option, Some, sym, ap, subst, ◌∙◌}
 use Rattle.command_io.specs.Lines.{speaking_lines}
 use Rattle.command_io.specs.declared.status.ExitStatus.{ExitStatus}
@@ -15,12 +15,14 @@ use Rattle.office_program.specs.Texts.OpenedOffice.{Opens, ReportsUnopened}
 use Rattle.office_program.specs.Entering.Entered.{EntersLines, ReportsEntering}
 use Rattle.office_program.specs.Entering.Lines.{Reporting}
 
--- The first timestamp of an input's lines equals the clock's time when the event engine was opened.
+-- The first timestamp of an input (a text of request lines) equals the clock's time when the event
+-- engine was opened.
 reported_at : (moments then : Option (List ℕ)) (listed : List ℕ) (following : Option (List ℕ)) (first at : ℕ) → ReportsMoment moments then first
     → listed ≡ first ∷ [] → ReportsMoment (Some listed) following at → at ≡ first
 reported_at moments then listed following first at reported is opens = opens.0 ∙ ap next_moment is
 
--- If opening the event engine was refused, then entering an input prints only the refusal.
+-- If opening the event engine was refused, then entering an input (a text of request lines) prints
+-- only the refusal.
 pub unopened : {B : Type 0} (ledger : B → Ledger) (reports : Reporting) (past : History) (caller text : List ℕ) (moments then : Option (List ℕ)) (listed : List ℕ)
     (following : Option (List ℕ)) (first : ℕ) (books back : B) (had holds : Option (List ℕ)) (status : ExitStatus) → ReportsMoment moments then first → listed ≡ first ∷ []
     → ReportsUnopened past (Some listed) following (ledger books) (ledger back) status had holds
@@ -40,8 +42,8 @@ kept : {B : Type 0} (ledger : B → Ledger) (left : Office B) (back : B) → bac
     → (ledger (books_in left)).is_clean
 kept {B = B} ledger left back is clean = let P : B → Type 0 = λ b. (ledger b).is_clean in subst P is clean
 
--- If the event engine was opened and an input was entered, then `ReportsEntering`, the contract for
--- the command, holds: the engine is in the state after the input's lines.
+-- If the event engine was opened and an input (a text of request lines) was entered, then the
+-- command's contract `ReportsEntering` holds: the engine is in the state after these lines.
 pub entered : {B W : Type 0} (ledger : B → Ledger) (contents : W → Option (List ℕ)) (reports : Reporting) (past : History) (caller text : List ℕ) (name : Option (List ℕ))
     (moments then later : Option (List ℕ)) (listed : List ℕ) (following : Option (List ℕ)) (first : ℕ) (books back : B) (opened left : Office B) (before silent : W)
     (holds : Option (List ℕ)) (status : ExitStatus) → name ≡ named caller → ReportsMoment moments then first → listed ≡ first ∷ []

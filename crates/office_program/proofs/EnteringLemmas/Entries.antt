@@ -1,4 +1,5 @@
--- Properties of the result of parsing an input line into a request.
+-- Proofs that parsing an input line returns the request, the point list or the faulty rows that the
+-- specification gives for the line.
 use Rattle.std.proofs.Common.{◌≡◌, inl, inr, ℕ, List, Option, Some, Result, Ok, Err, refl, sym, ap, subst, ◌∙◌}
 use Rattle.point_list.specs.Lists.{AreFaults, ExplainsList, SpellsList, list_faults, rows_read}
 use Rattle.point_list.specs.declared.fault.FaultyRow.{FaultyRow}
@@ -45,7 +46,8 @@ list_wanted caller text kept bytes number list want result is same its reads =
     let Q : List ℕ → Type 0 = λ b. ReadsList caller number list.device b text result in
     rw is (list_reads caller text number list result (subst Q its (subst P same reads)))
 
--- If an input line is a line of a script, then its parsed form is the request in the line.
+-- If an input line is a line of a script (the text of commands that `sunreg` reads), then its
+-- parsed form is the request in the line.
 pub script_reads : (caller : Option (List ℕ)) (text : List ℕ) (said : ScriptLine) (want : Wanted) (result : Result Entry LineFault)
     → want ≡ wanted_in (is_marked text) said → IsOnly (words_of (unmarked text)) said → ReadsWanted caller text want result → ReadsScript caller text result
 script_reads caller text said want (Ok entry) is only reads = record {
@@ -57,7 +59,8 @@ script_reads caller text said want (Err Bad) is only reads =
     λ other line. ap (wanted_in (is_marked text)) (only.only other line) ∙ sym is ∙ reads
 script_reads caller text said want (Err Memory) is only reads = tt
 
--- If an input line can't be parsed as a script's line, then the line makes no request of a script.
+-- If an input line can't be parsed as a line of a script (a text of commands), then the line makes
+-- no request of a script.
 pub no_script : (caller : Option (List ℕ)) (text : List ℕ) (fault : LineFault) → (let r : Result ScriptLine LineFault = Err fault in Reads (words_of (unmarked text)) r)
     → ReadsScript caller text (Err fault)
 no_script caller text Bad reads = λ said line. absurd (reads said line)
@@ -86,8 +89,9 @@ unnamed_reads reports caller text (Ok entry) none reads = inr (none, reads)
 unnamed_reads reports caller text (Err Bad) none reads = inr (none, reads.0, reads.1)
 unnamed_reads reports caller text (Err Memory) none reads = tt
 
--- If an input line has `@read` (the reading's placeholder), then the parser returns the line's
--- parsed form. Any other line without a file is parsed as a script's line.
+-- If an input line has `@read`, the placeholder that a reading of the counter replaces, then the
+-- parser returns the line's parsed form. Any other line that names no file is parsed as a line of a
+-- script (a text of commands).
 pub counter_reads : (caller : Option (List ℕ)) (text : List ℕ) (line : ReadLine) (result : Result Entry LineFault) → IsRead text line
     → ReadsCounter caller text line result → ReadsUnnamed caller text result
 counter_reads caller text line (Ok entry) is reads = inl (record { line = line; is = is; comes = reads })

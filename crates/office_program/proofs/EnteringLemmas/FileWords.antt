@@ -1,4 +1,5 @@
--- Properties of the words of an input line that names the file of a point list.
+-- Proofs that the parser recognizes exactly those lists of words that form an input line with the
+-- file name of a point list.
 use Rattle.std.proofs.Common.{◌≡◌, inl, inr, ℕ, ◌==◌, List, [], ◌∷◌, Option, Some, None, refl, sym, ap, ◌∙◌, subst}
 use Rattle.std.specs.Prelude.{codes, option_map}
 use Rattle.std.specs.Str.{bytes_eq}
@@ -8,7 +9,8 @@ use Rattle.script_text.proofs.Chosen.{chosen, is_text, same}
 use Rattle.script_text.proofs.Made.{bound, first_spelled}
 use Rattle.office_program.specs.Entering.FileLines.{FileLine, IsFileLine, IsNoFileLine, file_in, file_said, file_word, list_word}
 
--- If the words form a line that names a file, then the parser returns this line.
+-- If the words form an input line whose last word is the name of a file, such as the file of a
+-- point list, then the parser returns this line.
 pub said_of : (words : List (List ℕ)) (line : FileLine) → IsFileLine words line → file_said words ≡ Some line
 said_of [] line h = let none : (let o : Option ℕ = None in o) ≡ Some line.number = h.0 in cc none
 said_of (a ∷ []) line h = absurd h.1.0
@@ -52,7 +54,7 @@ none_left : (words : List (List ℕ)) (none : Unit {0}) → end_of_words words �
 none_left [] none h = tt
 none_left (word ∷ words) none h = cc h
 
--- If the parser returns a line that names a file, then the words form this line.
+-- If the parser returns an input line that names a file, then the words form this line.
 pub spelled_of : (words : List (List ℕ)) (line : FileLine) → file_said words ≡ Some line → IsFileLine words line
 spelled_of words line h =
     let number = bound (first_value Number words) _ line h in
@@ -68,7 +70,7 @@ spelled_of words line h =
     (file_spelled device.0.1 name.0 [] name.1 (none_left name.0.1 none.0 none.1)))) in
     subst (IsFileLine words) (same made line none.2) is
 
--- If the parser returns `None`, the words form no line that names a file.
+-- If the parser returns `None`, the words form no input line that names a file.
 pub none_of : (words : List (List ℕ)) → (let o : Option FileLine = None in o) ≡ file_said words → IsNoFileLine words
 none_of words h = λ line is. let both : (let o : Option FileLine = None in o) ≡ Some line = h ∙ said_of words line is in cc both
 

@@ -26,8 +26,8 @@ use Rattle.office_books.proofs.Lookups.{same_itself, same_text}
 use Rattle.office_books.proofs.LostPolls.{left_in, with_lost_is}
 use Rattle.office_books.proofs.QuietFacts.{HoldsOfBooks, added_each, later_part_first, unseen}
 
--- A record of a point list, accounting register, meter installation, meter entry or cancellation of
--- an entry has no stored answer to a request.
+-- A record of a point list, accounting register (a named energy counter), meter installation, meter
+-- entry or cancellation of an entry has no stored answer to a request.
 no_reply : HoldsOfBooks (λ f. as_reply f ≡ None)
 no_reply = record { list = λ l. refl; register = λ r. refl; opening = λ o. refl; entry = λ b. refl; void = λ v. refl }
 
@@ -48,7 +48,7 @@ lost_unseen at (poll ∷ polls) facts = lost_unseen at polls facts
 none_lost : (at : ℕ) (facts : List Fact) → replies_in (with_lost at facts) ≡ replies_in facts
 none_lost at facts = ap replies_in (with_lost_is at facts) ∙ lost_unseen at (left_in facts) facts
 
--- The stored answer of a request, with its caller, number and bytes.
+-- The stored answer to an accepted request, with the request's caller, number and bytes.
 abbrev kept_reply : (at : ℕ) → Asked → (caller : List ℕ) → Reply
 kept_reply at asked caller =
     record { caller = caller; number = asked.number; request = asked.request; kind = kind_of asked.command; at = at }
@@ -66,8 +66,8 @@ reply_none : (at : ℕ) (asked : Asked) (known : List Fact) (o : Option (List �
 reply_none at asked known None is = refl
 reply_none at asked known (Some c) is = cc is
 
--- After an accepted request, the stored answers are the earlier answers and the answer to this
--- request.
+-- After an accepted request with an idempotency key, the stored answers are the answers that were
+-- stored before, and the answer to this request.
 asked_first : (number at : ℕ) (slots : List Slot) (facts : List Fact) (asked : Asked) (caller : List ℕ) → asked.caller ≡ Some caller
     → replies_in (reverse (added_by number at slots facts asked.command ++ reply_by at asked) ++ facts) ≡ kept_reply at asked caller ∷ replies_in facts
 asked_first number at slots facts asked caller is =
@@ -110,7 +110,7 @@ answer_new new replies =
     let own : (same new.caller new.caller && (new.number == new.number)) ≡ true = rw (same_itself new.caller, eq-eqb new.number new.number refl) refl in
     cond-true (same new.caller new.caller && (new.number == new.number)) (Some new) (answer_in replies new.caller new.number) own
 
--- True if the store has an answer of this kind to a request, with the request's bytes.
+-- True if the store has an answer of the given kind to a request, with the request's bytes.
 pub record Keeps (facts : List Fact) (asked : Asked) (kind : CommandKind) : Type 0 where
   pub caller : List ℕ
   pub named : asked.caller ≡ Some caller

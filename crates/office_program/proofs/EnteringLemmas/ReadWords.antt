@@ -1,5 +1,5 @@
--- Properties of the words of an input line with `@read`, the placeholder for a counter's present
--- reading.
+-- Proofs that the parser recognizes exactly those lists of words that form an input line with
+-- `@read`, the placeholder that a present reading of the counter replaces.
 use Rattle.std.proofs.Common.{◌≡◌, ◌⊎◌, inl, inr, ℕ, Bool, true, false, List, [], ◌∷◌, Option, Some, None, refl, sym, ap, ◌∙◌, subst}
 use Rattle.std.specs.Prelude.{codes, if◌then◌else◌, option_map}
 use Rattle.std.specs.Str.{bytes_eq}
@@ -12,7 +12,8 @@ use Rattle.script_text.specs.LineWords.Words.{words_of}
 use Rattle.office_program.specs.Entering.Marks.{is_marked, unmarked}
 use Rattle.office_program.specs.Entering.ReadLines.{IsNoRead, IsNoReadLine, IsRead, IsReadLine, exchange_said, install_said, line_said, may_end, read_said, read_word, verb_said}
 
--- Lemmas: if words form an input line with `@read`, then the parser returns this line.
+-- Lemmas: if words form an input line with `@read` (which the program later replaces by the
+-- counter's reading), then the parser returns this line.
 
 -- If words spell a field and further fields, then the parser reads the value of the field from the
 -- first word. If no word is left, it reads the default value of an optional field.
@@ -52,7 +53,8 @@ said_of words (read.Exchange number register last rolls meter ceiling range) h =
     let j = first_read Range range i.0 _ i.2 in
     rw (a.1, b.1, c.1, d.1, e.1, f.1, g.1, i.1, j.1, ends_read j.0 j.2) refl
 
--- Lemmas: if the parser returns an input line with `@read`, then the words form this line.
+-- Lemmas: if the parser returns an input line with `@read` (the reading's placeholder), then the
+-- words form this line.
 
 read_spelled : (words rest : List (List ℕ)) (more : List Field) → read_word words ≡ Some rest → Spell rest more → Spell words (Word (codes "@read") ∷ more)
 read_spelled [] rest more h spelled = cc h
@@ -144,12 +146,13 @@ spelled_of words line h =
 pub none_of : (words : List (List ℕ)) → (let o : Option ReadLine = None in o) ≡ read_said words → IsNoReadLine words
 none_of words h = λ line is. let both : (let o : Option ReadLine = None in o) ≡ Some line = h ∙ said_of words line is in cc both
 
--- Words form at most one input line with `@read` (the placeholder for a counter's reading): any two
--- lines that they form are equal.
+-- Words form at most one input line with `@read`, the placeholder that a reading of the counter
+-- replaces: any two lines that they form are equal.
 pub one_line : (words : List (List ℕ)) (a b : ReadLine) → IsReadLine words a → IsReadLine words b → a ≡ b
 one_line words a b first second = same a b (sym (said_of words a first) ∙ said_of words b second)
 
--- Lemmas on the text of an input line with `@read`, with or without the mark ` !` (a confirmation).
+-- Lemmas on the text of an input line with `@read` (the reading's placeholder), with or without the
+-- mark ` !` (a confirmation).
 
 pub read_so : (text : List ℕ) (line : ReadLine) → Some line ≡ read_said (words_of (unmarked text)) → may_end (is_marked text) line ≡ true → IsRead text line
 read_so text line said may = record { is = spelled_of (words_of (unmarked text)) line (sym said); may = may }

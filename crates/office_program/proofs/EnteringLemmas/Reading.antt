@@ -1,4 +1,5 @@
--- Properties of the reading of a meter's counter for an input line with `@read`.
+-- Lemmas about reading a meter's counter from its device, for an input line with `@read`. The
+-- program replaces `@read` by this reading.
 use Rattle.std.proofs.Common.{◌≡◌, inl, inr, ℕ, pos, List, Option, Some, None, Result, Ok, Err, refl, sym, ap, subst, ◌∙◌}
 use Rattle.std.specs.Prelude.{is_some}
 use Rattle.std.specs.Option.{option_and_then}
@@ -31,8 +32,9 @@ counter_reported reports facts register counter device None found there reported
 counter_reported reports facts register counter device (Some shown) found there reported =
     record { counter = counter; device = device; register_is = found; device_is = there; reported = reported }
 
--- Suppose that an earlier query did not fail, so that no failure count changed. Then the answer to
--- a later query for the counter's reading is also correct for the counts before the earlier query.
+-- Suppose that an earlier query did not fail, so that it left the failure counts of the store
+-- unchanged. Then the answer to a later query for the counter's reading is also correct for the
+-- counts before the earlier query.
 pub read_on : {B : Type 0} (ledger : B → Ledger) (reports : Reporting) (register : Option (List ℕ)) (past : History) (before between after : Failures) (office : Office B)
     (result : Result (Option Shown) Refusal) → between ≡ before → IsReadThere ledger reports register past between after office result
     → IsReadThere ledger reports register past before after office result
@@ -40,8 +42,8 @@ read_on ledger reports register past before between after office result same don
     let P : Failures → Type 0 = λ n. IsReadThere ledger reports register past n after office result in
     subst P same done
 
--- If the store does not have the request of an input line with `@read` (the reading's placeholder),
--- then the counter is read for the request.
+-- If the store does not have the request of an input line with `@read`, then the counter is read
+-- for the request. The reading replaces this placeholder.
 pub filled : {B : Type 0} (ledger : B → Ledger) (reports : Reporting) (read : ReadRequest) (register : Option (List ℕ)) (past : History) (before between after : Failures)
     (office : Office B) (result : Result (Option Shown) Refusal) → repeat_of_read (facts_of past) read ≡ None → register ≡ line.register_of read.line
     → between ≡ before → IsReadThere ledger reports register past between after office result → IsFilled ledger reports read past before after office result

@@ -1,5 +1,5 @@
--- Proof that entering an input a second time has no effect. Each of its lines is answered as a
--- retry.
+-- Proof that entering an input (a text of request lines) a second time has no effect. Each of its
+-- lines is answered as a retry.
 use Rattle.std.proofs.Common.{◌≡◌, ℤ, pos, ◌⊎◌, inl, inr, ℕ, Bool, true, false, List, [], ◌∷◌, ◌++◌, Option, Some, None, Result, Ok, Err, refl, sym, ap, subst, ◌∙◌, append_assoc}
 use Rattle.std.specs.Prelude.{IsOk, if◌then◌else◌}
 use Rattle.command_io.specs.Lines.{Line}
@@ -41,7 +41,8 @@ use Rattle.office_program.proofs.EnteringLemmas.FileWords.{one_line}
 use Rattle.office_program.proofs.EnteringLemmas.ReadWords.{one_line as one_read}
 use Rattle.office_program.proofs.EnteringLemmas.Kept.{Keeps, accepted_before, answers, keeps_first, keeps_on, kept_again}
 
--- Lemmas on the answer to a retry of one request.
+-- Lemmas: a retry of a stored request gets the answer `Again` (executed earlier), also after later
+-- events.
 
 decided : (history : History) (at : ℕ) (e : Event) (kind : CommandKind) → kept_of (facts_of history) e ≡ Some (Ok kind)
     → decision_of history at e ≡ Ok (answer.Again kind)
@@ -58,8 +59,9 @@ requests_are_repeated past more at again_at asked again accepted same =
 
 -- Lemmas: all parsed forms of an input line make the same request (same caller, number and bytes).
 
--- The request of an input line with `@read`, for an arbitrary reading of the counter. The request's
--- caller, number and bytes identify a retry, and do not depend on the reading.
+-- The request of an input line with `@read`, for an arbitrary reading of the counter, which
+-- replaces this placeholder. The request's caller, number and bytes identify a retry, and do not
+-- depend on the reading.
 abbrev asked_like : ReadRequest → Asked
 asked_like read = asked_at read 0 (pos 0)
 
@@ -142,8 +144,8 @@ KeepsEntry later (entry.Ask asked) = (kind : CommandKind) × Keeps (facts_of lat
 KeepsEntry later (entry.Read read) = (kind : CommandKind) × Keeps (facts_of later) (asked_like read) kind
 KeepsEntry later (entry.Faulty rows) = ⊥
 
--- True if the answer to an accepted request is `Again`, because the request is stored. Also true if
--- the request is not stored and has the answer to a first execution.
+-- True if the answer to an accepted request is `Again` (executed earlier), because the request is
+-- stored. Also true if the request is not stored and has the answer to a first execution.
 abbrev Acted : (history : History) (at : ℕ) (asked : Asked) → Result Answer Refusal → (kept : Option (Result CommandKind Refusal)) → (why : Option Refusal) → Type 0
 Acted history at asked result kept why =
     ((kind : CommandKind) × (result ≡ Ok (answer.Again kind)) × (kept ≡ Some (Ok kind)))
@@ -175,7 +177,8 @@ fed history at asked =
     fed_by history at (event.Asked asked) (is_start c) (next_poll (facts_of history)) (sent_count (slots_of history) (facts_of history) at c)
     (reads_in_all (facts_of history) c) (kind_of c)
 
--- True if the later history of accepted events extends the earlier history.
+-- True if the history `later` of accepted events is the history `history` with zero or more events
+-- after it.
 abbrev GrowsTo : History → History → Type 0
 GrowsTo later history = (more : History) × (later ≡ more ++ history)
 
@@ -221,8 +224,8 @@ keeps_same facts asked again kind same kept = record {
   done = kept.done;
 }
 
--- The requests of an input line with `@read` have equal idempotency keys and bytes for any reading
--- of the counter.
+-- Lemma on an input line with `@read`, which the program replaces by the reading of the meter's
+-- counter. The line's request has the same idempotency key and the same bytes for any reading.
 like : (read : ReadRequest) (raw : ℕ) (sf : ℤ) → IsSameRequest (asked_at read raw sf) (asked_like read)
 like read raw sf = record { caller = refl; number = refl; request = refl }
 
@@ -297,7 +300,8 @@ outside_same : (takes_memory : Type 0) (history : History) (at : ℕ) (e : Event
 outside_same takes_memory history at e (Ok given) before after fails = absurd fails
 outside_same takes_memory history at e (Err why) before after fails = refl
 
--- If a request is stored, then it is not accepted again.
+-- If the store keeps an accepted request with its response, the event engine does not accept this
+-- request again.
 not_accepted : (later : History) (at : ℕ) (e : Event) (asked : Asked) (kind : CommandKind) → e ≡ event.Asked asked → Keeps (facts_of later) asked kind
     → IsAccepted later at e → ⊥
 not_accepted later at e asked kind is keeps accepted =

@@ -1,5 +1,5 @@
--- Properties of an accounting register's report on a range of days: of the days in the report, and
--- of the printed text.
+-- Lemmas: an accounting register's report on a range of days has exactly the days in the range, and
+-- the text of these days, or a refusal, was printed.
 use Rattle.std.proofs.Common.{◌≡◌, inl, inr, ℕ, Bool, true, false, Option, List, [], ◌∷◌, ◌++◌, refl, sym, subst, ap, ◌∙◌, append-nil, append_assoc}
 use Rattle.std.specs.Prelude.{Result, Ok, Err, if◌then◌else◌}
 use Rattle.command_io.specs.declared.status.ExitStatus.{ExitStatus}
@@ -21,7 +21,8 @@ use Rattle.office_program.specs.Texts.EndTexts.{IsReported}
 use Rattle.office_program.specs.Texts.RangedReports.{IsRangedReport, PrintsRest}
 use Rattle.office_program.specs.Texts.Reports.{meant_by}
 
--- Lemmas on the printed text of an accounting register's report on a range of days.
+-- Lemmas: the text of an accounting register's report on a range of days was printed, or a part of
+-- it if a write failed, or the refusal of the report.
 
 -- If the writer of a report received the first days and then more days one by one, then it has
 -- received all days.
@@ -61,7 +62,7 @@ printed {W} contents zone past register form before after from to left output st
     let P : W → Type 0 = λ w. IsReported (refused_line why) Refused status (contents w) (contents left.output.now) in
     (refused_line why, refl, subst P same rest.reported)
 
--- After the days of a report were written, the report still prints to the same output.
+-- After the days of a report were written, the report still prints to the same output as before.
 taken_by : {W : Type 0} (contents : W → Option (List ℕ)) (days : List DayTotal) (from to : ReportRows W)
     → TakesAll (TakesDay contents) from days to → to.output.ghost_name ≡ from.output.ghost_name
 taken_by {W} contents [] from to took = ap (λ (rows : ReportRows W). rows.output.ghost_name) took

@@ -1,5 +1,5 @@
--- Properties of the days that the office (the event engine) passes to the writer of a report, and
--- of the report's printed text.
+-- Lemmas: the lines of the days that the office (the event engine) passes to the writer of a
+-- report, and the line with their number, are the report's printed text.
 use Rattle.std.proofs.Common.{◌≡◌, ◌≤◌, ◌<◌, ◌^◌, ℕ, Option, List, [], ◌++◌, length, refl, ap, arith}
 use Rattle.std.specs.List.{flat_map}
 use Rattle.std.specs.Prelude.{Result, Ok, Err}

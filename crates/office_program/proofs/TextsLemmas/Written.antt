@@ -1,4 +1,5 @@
--- Properties of the rows that the writer of a report has written, and of the text after the rows.
+-- Lemmas: all rows of a report and the text after the rows were printed, or only a part of this
+-- text if a write failed.
 use Rattle.std.proofs.Common.{◌≡◌, ◌+◌, inl, inr, ℕ, true, false, Option, List, ◌++◌, length, refl, sym, ap, subst, ◌∙◌, arith}
 use Rattle.std.specs.List.{flat_map}
 use Rattle.std.specs.Io.KnownBytes.{Appends}
@@ -29,8 +30,8 @@ reported_after : (x y : List ℕ) (meant status : ExitStatus) (a b c : Option (L
 reported_after x y meant status a b c first (inl reported) = inl (reported.0, Appends-trans a b c x y first reported.1)
 reported_after x y meant status a b c first (inr part) = inr (part.0, following x y a b c first part.1)
 
--- If no write of the rows of a report failed, then all rows were printed, followed by the report's
--- last text.
+-- If no write of the rows of a report failed, then all rows were printed, followed by the text that
+-- ends the report.
 pub reported_all : {W T : Type 0} (contents : W → Option (List ℕ)) (line : T → List ℕ) (rows : List T) (last : ℕ → List ℕ)
     (from to : RowLines W) (meant status : ExitStatus) (o o' : W) → from.failed ≡ false → from.count ≡ 0
     → TakesAll (TakesLine contents line) from rows to → to.failed ≡ false → from.output.now ≡ o

@@ -4,7 +4,8 @@ use Rattle.std.specs.List.{list_any}
 use Rattle.office_events.specs.declared.answers.Note.{Note}
 use Rattle.office_events.specs.declared.answers.Note.TheVariants as note
 
--- True if the notification reports the outcome of the poll with number `poll`.
+-- True if the notification (of a poll's outcome or of a reading) reports the outcome of the poll
+-- with number `poll`.
 abbrev pub ends : (poll : ℕ) → Note → Bool
 ends poll (note.Outcome ended outcome) = ended == poll
 ends poll (note.Reading meter raw rolls step) = false

@@ -49,8 +49,8 @@ wish_at (Leaving closing) device started = Some (event.Gone device closing)
 abbrev pub wish_of : Round → Option Event
 wish_of round = wish_at round.stage round.device round.started
 
--- The polling round after its device connected, by the round's stage before: a new round if no
--- round was running (`Off`), otherwise the unchanged round.
+-- The polling round after its device connected, by the round's stage before the connection: a new
+-- round if no round was running (`Off`), otherwise the unchanged round.
 abbrev pub joined_at : Stage → Round → Round
 joined_at Off round = record {
   device = round.device;
@@ -65,9 +65,10 @@ joined_at Starting round = round
 joined_at Waiting round = round
 joined_at (Leaving closing) round = round
 
--- The polling round after its device connected.
+-- The state of a polling round after its device connected.
 --
--- The result depends on the stage of the round, as `joined_at` describes.
+-- If no polling round was running (stage `Off`), then a new round begins. Otherwise the round is
+-- unchanged.
 abbrev pub joined : Round → Round
 joined round = joined_at round.stage round
 
@@ -80,8 +81,8 @@ leaving closing round = record round { stage = stages.left closing round.stage }
 abbrev pub broken_off : Round → Round
 broken_off round = record round { stage = Leaving closing.Failed }
 
--- The stage after Modbus reads were started. If a poll is pending, the polling round waits for
--- responses. Otherwise it ends.
+-- The stage of a polling round after Modbus reads were started. If a poll is pending, the round
+-- waits for responses. Otherwise the round ends.
 abbrev pub stage_after : List ℕ → Stage
 stage_after polls = if length polls == 0 then Leaving closing.Gone else Waiting
 
@@ -98,7 +99,8 @@ begun first count planned round = record {
 
 -- The polling round after the event engine's answer to its start of Modbus reads.
 --
--- If the answer is not `Started`, or more than 16 polls would be pending, the round ends early.
+-- If the event engine's answer is not `Started`, or more than 16 polls would be pending (without an
+-- outcome), the polling round ends early.
 abbrev pub started_by : Answer → Round → Round
 started_by answer.Noted round = broken_off round
 started_by (answer.Done kind) round = broken_off round
@@ -110,8 +112,8 @@ started_by (answer.Started first count of) round =
 -- The polling round after the event engine's answer to the round's event, by the round's stage
 -- before the answer.
 --
--- After `Connected` the round starts its Modbus reads. A refusal ends the round early. If the
--- engine refused `Connected`, the round is over at once.
+-- After `Connected` the polling round starts its Modbus reads. If the event engine refused
+-- `Connected`, or answered `Gone`, then the round is over. Any other refusal ends the round early.
 abbrev pub answered_at : Stage → Result Answer Refusal → Round → Round
 answered_at Off result round = round
 answered_at Joining (Ok given) round = record round { stage = Starting }
@@ -134,8 +136,8 @@ gone_on round =
     else if length round.polls.items == 0 then record round { stage = Leaving closing.Gone }
     else round
 
--- The polling round after the event engine's notifications of an event, by the round's stage
--- before. `ended` is true if the notifications end one of the round's polls.
+-- The polling round after the event engine's notifications of an event, by the round's stage before
+-- them. `ended` is true if the notifications end one of the round's polls.
 abbrev pub going_on : Stage → (ended : Bool) → Round → Round
 going_on Off ended round = round
 going_on Joining ended round = round
@@ -144,11 +146,13 @@ going_on Waiting true round = gone_on round
 going_on Waiting false round = round
 going_on (Leaving closing) ended round = round
 
--- The polls of the polling round that are still pending after the given notifications.
+-- The polls of the polling round that are still pending (without an outcome) after the event
+-- engine's notifications `notes`. A notification can report a poll's outcome.
 abbrev pub polls_left : List Note → Round → List ℕ
 polls_left notes round = filter (waits notes) round.polls.items
 
--- The polling round after the event engine's notifications of an event.
+-- The state of a polling round after the event engine reported an event's outcomes and readings:
+-- the ended polls are no longer pending, and the sums are updated.
 abbrev pub heard : List Note → Round → Round
 heard notes round =
     going_on round.stage (nat_lt (length (polls_left notes round)) (length round.polls.items))

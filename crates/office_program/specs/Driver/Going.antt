@@ -21,7 +21,8 @@ pub record Scene (B V : Type 0) : Type 0 where
   pub rounds : List Round
   pub observer : V
 
--- The `Scene` (the state during a call of `turn`) with these fields.
+-- Builds a `Scene` (the state during a call of `turn`, which processes one device event) from its
+-- fields.
 abbrev pub scene : {B V : Type 0} → Office B → Failures → List Round → V → Scene B V
 scene office failures rounds observer =
     record { office = office; failures = failures; rounds = rounds; observer = observer }
@@ -34,7 +35,8 @@ pub record Start (V : Type 0) : Type 0 where
   pub table : Table
   pub observer : V
 
--- The `Start` (the state at the start of a call of `turn`) with these fields.
+-- Builds a `Start` (the state at the start of a call of `turn`, which processes one device event)
+-- from its fields.
 abbrev pub start : {V : Type 0} → Failures → Table → V → Start V
 start failures at observer = record { failures = failures; table = at; observer = observer }
 
@@ -43,11 +45,11 @@ abbrev pub AreAt : ℕ → List Answered → Type 0
 AreAt at [] = Unit {0}
 AreAt at (one ∷ earlier) = AreAt at earlier × (one.at ≡ at)
 
--- The invariant of a call of `turn`: each event that the call has fed to the event engine was the
--- next event to feed, and all events have one timestamp.
+-- The invariant of a call of `turn` (which processes one device event): each event that the call
+-- has fed to the event engine was the next event to feed, and all events have one timestamp.
 --
--- The event engine gave the defined answer to each event, and the observer was shown each event.
--- The engine and the polling rounds are in the state after the events.
+-- The event engine gave each event the answer that the specification gives, and the observer got a
+-- report of each event. The engine and the polling rounds are in the state after the events.
 pub record Going {B V : Type 0} (ledger : B → Ledger) (sees : V → Shown → V → Type 0)
     (past : History) (begun : Start V)
     (at : ℕ) (fed : List Answered) (first : Option Wished) (now : Scene B V) : Type 0 where
@@ -58,10 +60,11 @@ pub record Going {B V : Type 0} (ledger : B → Ledger) (sees : V → Shown → 
   pub rounds : table first now.rounds ≡ table_with past begun.table fed
   pub shown : AreShown sees begun.observer now.observer past begun.table fed
 
--- States that if `one` is the next event for the event engine, the call fed this event to the
--- engine. Then `new` is the state after the event.
+-- States that if `one` is the next event for the event engine, the call of `turn` (which processes
+-- one device event) fed this event to the engine. Then `new` is the state after the event.
 --
--- States nothing if `one` is not the next event, or if a wrong result of the store was used.
+-- The definition `FeedsNext` states nothing if `one` is not the next event to feed to the event
+-- engine, or if the program used a wrong result of the store.
 abbrev pub FeedsNext : {B V : Type 0} → (B → Ledger) → (V → Shown → V → Type 0) → (at : ℕ) → Wished
     → (old new : Scene B V) → Type 0
 FeedsNext {B} {V} ledger sees at one old new =
@@ -85,25 +88,25 @@ OfficeGoesOn {B} {V} ledger sees at old new =
     → (later : List Answered) × Going ledger sees past begun at later None new
     × IsSettled new.rounds fed later
 
--- The contract of feeding one event to the event engine. `FeedsNext` relates the engine, its
--- polling rounds and its observer before and after the call.
+-- The contract of feeding one event to the event engine. The definition `FeedsNext` relates the
+-- engine, its polling rounds and its observer before and after the call.
 abbrev pub FeedsOne : {B V : Type 0} → (B → Ledger) → (V → Shown → V → Type 0) → (at : ℕ) → Wished
     → (old new : Office B) → (before after : List Round) → (from to : V) → Type 0
 FeedsOne ledger sees at one old new before after from to =
     FeedsNext ledger sees at one (scene old (failures_of ledger old) before from)
     (scene new (failures_of ledger new) after to)
 
--- The contract of feeding the polling rounds' events to the event engine. `OfficeGoesOn` relates
--- the engine, its polling rounds and its observer before and after the call.
+-- The contract of feeding the polling rounds' events to the event engine. The definition
+-- `OfficeGoesOn` relates the engine, its polling rounds and its observer before and after the call.
 abbrev pub Settles : {B V : Type 0} → (B → Ledger) → (V → Shown → V → Type 0) → (at : ℕ)
     → (old new : Office B) → (before after : List Round) → (from to : V) → Type 0
 Settles ledger sees at old new before after from to =
     OfficeGoesOn ledger sees at (scene old (failures_of ledger old) before from)
     (scene new (failures_of ledger new) after to)
 
--- The result of a complete call of `turn`. The call fed the device event, if there was one, to the
--- event engine. Then it fed the events of polling rounds, until no round generated an event or 256
--- events were fed.
+-- The result of a complete call of `turn` (which processes one device event). The call fed the
+-- device event, if there was one, to the event engine. Then it fed the events of polling rounds,
+-- until no round generated an event or 256 events were fed.
 pub record TakesTurn {B V : Type 0} (ledger : B → Ledger) (sees : V → Shown → V → Type 0)
     (past : History) (begun : Start V)
     (at : ℕ) (now : Scene B V) : Type 0 where
@@ -115,7 +118,7 @@ pub record TakesTurn {B V : Type 0} (ledger : B → Ledger) (sees : V → Shown 
 -- event).
 --
 -- `begun` has the polling rounds and the event to feed first to the engine. `rounds` and `to` are
--- the rounds and the observer after the call.
+-- the rounds and the observer after the call of `turn`, which processes one device event.
 abbrev pub Turns : {B V : Type 0} → (B → Ledger) → (V → Shown → V → Type 0) → (at : ℕ)
     → (begun : Table) → (old new : Office B) → (rounds : List Round) → (from to : V) → Type 0
 Turns ledger sees at begun old new rounds from to =

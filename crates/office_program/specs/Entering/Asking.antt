@@ -1,5 +1,5 @@
 -- The effect of one input line on an office (the engine that records meters' energy), the clock and
--- the writer. The names `old`, `before` and `had` denote the state before the line.
+-- the writer of the output. The names `old`, `before` and `had` denote the state before the line.
 use Rattle.std.specs.Prelude.{◌≡◌, ℕ, true, List, [], Option, Result, Ok, Err, IfOk}
 use Rattle.std.specs.Io.KnownBytes.{Appends}
 use Rattle.std.specs.declared.io.Error.{Error}
@@ -60,8 +60,8 @@ pub record IsAsked {B : Type 0} (ledger : B → Ledger) (past : History) (at : �
   pub text : GotText result (reply_text past one.at one.event one.result) had holds
   pub next : IfOk result (λ next. next ≡ progress_after progress (Asked one))
 
--- The contract of feeding one event and printing the answer. `IsAsked` states the result, whatever
--- events the event engine accepted before.
+-- The contract of feeding one event and printing the answer. The definition `IsAsked` states the
+-- result, whatever events the event engine accepted before.
 abbrev pub AsksAt : {B W : Type 0} → stores.Ghosts B → writers.Ghosts W → (at : ℕ) → Event
     → Progress → (old new : Office B) → (had holds : W) → Result Progress Error → Type 0
 AsksAt b w at e progress old new had holds result = After b.ledger old new (λ past.
@@ -85,8 +85,9 @@ pub record HasCome {B : Type 0} (ledger : B → Ledger) (reports : Reporting) (e
   pub shown : IsShown reports (facts_of past) entry came
   pub takes : TakesLine {E = Error} ledger past progress begun now office result came
 
--- The contract of processing one parsed input line with the timestamp `at`. `HasCome` states the
--- result, whatever events the event engine accepted before and whatever time the clock returns.
+-- The contract of processing one parsed input line with the timestamp `at`. The definition
+-- `HasCome` states the result, whatever events the event engine accepted before and whatever time
+-- the clock returns.
 abbrev pub EntersAt : {B W : Type 0} → stores.Ghosts B → writers.Ghosts W → Reporting → Entry
     → Progress → (at : ℕ) → (old new : Office B) → (had holds : W) → Result Progress Error → Type 0
 EntersAt b w reports entry progress at old new had holds result = (moments later : Option (List ℕ))
@@ -104,8 +105,9 @@ pub record HasAsked {B : Type 0} (ledger : B → Ledger) (request : Request) (pa
   pub comes : IsCameOf (entry.Ask request) came
   pub takes : TakesLine {E = Error} ledger past progress begun now office result came
 
--- The contract of feeding the request of an input line with the timestamp `at`. `HasAsked` states
--- the result, whatever events the event engine accepted before and whatever time the clock returns.
+-- The contract of feeding the request of an input line with the timestamp `at`. The definition
+-- `HasAsked` states the result, whatever events the event engine accepted before and whatever time
+-- the clock returns.
 abbrev pub AsksTimed : {B W : Type 0} → stores.Ghosts B → writers.Ghosts W → Request → Progress
     → (at : ℕ) → (old new : Office B) → (had holds : W) → Result Progress Error → Type 0
 AsksTimed b w request progress at old new had holds result = (moments later : Option (List ℕ))
@@ -123,8 +125,8 @@ module _ {B C W : Type 0} (b : stores.Ghosts B) (c : clocks.Ghosts C) (w : write
       (λ past. HasCome b.ledger reports entry past progress
       (desk_of b c w old before had) (desk_of b c w new after holds) new result)
 
-  -- True if the next line of the input was processed, or the line is bad, its message was printed,
-  -- and the command ends.
+  -- True if the next line of the input (a text of request lines) was processed, or the line is bad,
+  -- its message was printed, and the command ends.
   abbrev pub EntersNext : Reporting → (caller : Option (List ℕ)) → Line → Progress
       → (old new : Office B) → (before after : C) → (had holds : W) → Result Progress ExitStatus
       → Type 0

@@ -1,7 +1,7 @@
--- The progress of processing an input: the outcome and the text of each line, and the state of the
--- office (the event engine) after each line.
+-- The progress of processing an input (a text of request lines): the outcome and the text of each
+-- line, and the state of the office (the event engine) after each line.
 --
--- All lists of processed lines have the latest line first.
+-- In the definitions below, all lists of processed lines have the latest line first.
 use Rattle.std.specs.Prelude.{◌≡◌, ◌⊎◌, ◌||◌, ℕ, max, true, false, List, [], ◌∷◌, ◌++◌, codes, Option, Some, None, Result, Ok, Err, IfOk, is_err}
 use Rattle.std.specs.Fmt.{decimal}
 use Rattle.std.specs.List.{flat_map}
@@ -48,7 +48,7 @@ use Rattle.office_program.specs.Entering.Reading.{AsksShown, IsShownFor}
 -- - `Doubted`: the line's entry by hand would record the energy `mwh`, which is more than the
 --   meter's power limit allows;
 -- - `Undecided`: the engine could not answer a query that the line needs, because of a failure;
--- - `Unread`: the meter's counter can't be read.
+-- - `Unread`: the meter's counter can't be read from the device.
 pub data Came : Type 0 where
   Asked : Answered → Came
   Faulty : List FaultyRow → Came
@@ -56,7 +56,8 @@ pub data Came : Type 0 where
   Undecided : (at : ℕ) → Request → Refusal → Came
   Unread : (at : ℕ) → ReadRequest → Came
 
--- True if the outcome is possible for an input line with the parsed form `e`.
+-- True if the outcome of an input line is possible for a line with the parsed form `e`. Outcomes
+-- are, for example, an answered request, or faulty rows of a point list.
 abbrev pub IsCameOf : Entry → Came → Type 0
 IsCameOf e (Asked one) =
     (request : Request) × MayAsk e request × (one.event ≡ event.Asked request)
@@ -69,7 +70,8 @@ IsCameOf _ _ = ⊥
 -- States that if the line installs a meter at its present reading (`@read`), then the request has
 -- this reading of the meter's counter. States nothing for other lines.
 --
--- The accounting register and its device are those in the store's records.
+-- The accounting register whose counter is read, and the register's device, are those in the
+-- store's records.
 abbrev pub IsShown : Reporting → List Fact → Entry → Came → Type 0
 IsShown reports facts (entry.Read read) (Asked one) =
     (request : Request) × AsksShown reports facts read request × (one.event ≡ event.Asked request)
@@ -78,8 +80,8 @@ IsShown reports facts (entry.Read read) (Doubted at request mwh) =
 IsShown reports facts (entry.Read read) (Unread at tried) = IsShownFor reports facts read None
 IsShown reports facts _ _ = Unit {0}
 
--- True if the input line has a parsed form for which the outcome `came` is possible, when the event
--- engine has accepted the events `past`.
+-- True if, after the accepted events `past`, the outcome `came` is possible for a parsed form of
+-- the input line. Outcomes are, for example, an answered request, or faulty rows of a point list.
 pub record Comes (reports : Reporting) (caller : Option (List ℕ)) (past : History) (text : List ℕ)
     (came : Came) : Type 0 where
   pub entry : Entry
@@ -87,25 +89,25 @@ pub record Comes (reports : Reporting) (caller : Option (List ℕ)) (past : Hist
   pub comes : IsCameOf entry came
   pub shown : IsShown reports (facts_of past) entry came
 
--- The event engine's accepted events after an input line with this outcome. Only a newly accepted
--- request adds an event.
+-- The event engine's accepted events after an input line with the given outcome. Only a newly
+-- accepted request adds an event.
 abbrev pub with_came : History → Came → History
 with_came past (Asked one) = with_answer past one.at one.event one.result
 with_came past _ = past
 
--- True if the event engine answered the request, and the request's entry is not doubted: its energy
--- is within what the meter's power limit allows.
+-- True if the event engine answered the request, and the request's manual entry, if any, is not
+-- doubted: its energy is within what the meter's power limit allows.
 pub record IsAskedAndAnswered (past : History) (before after : Failures) (one : Answered) : Type 0
   where
     pub undoubted : doubt_in (facts_of past) one.at one.event ≡ None
     pub answer : IsAnswer past one.at one.event before after one.result
 
--- True if an input line had the outcome that the definitions give for the store's records before
+-- True if an input line had the outcome that the specification gives for the store's records before
 -- the line.
 --
--- A request has the defined answer or was refused because of a failure. An entry that is reported
--- as doubted needs a confirmation. An undecided line is one for which a query failed. The failure
--- counts change accordingly.
+-- A request has the answer that the specification gives, or was refused because of a failure. An
+-- entry that is reported as doubted needs a confirmation. An input line is undecided only if a
+-- query failed. Each failure of the store is counted.
 abbrev pub IsCameAnswered : History → (before after : Failures) → Came → Type 0
 IsCameAnswered past before after (Asked one) = IsAskedAndAnswered past before after one
 IsCameAnswered past before after (Faulty rows) = after ≡ before
@@ -114,8 +116,9 @@ IsCameAnswered past before after (Doubted at request mwh) =
 IsCameAnswered past before after (Undecided at request why) = IsOutside ⊥ before after why
 IsCameAnswered past before after (Unread at read) = after ≡ before
 
--- The text that reports the event engine's answer to an event, as in a script: the notifications
--- and `ok`, or `refused N` with the numeric code of the refusal.
+-- The text that reports the event engine's answer to an event, in the format in which a script (a
+-- text of commands) is answered. It has the notifications and `ok`, or `refused N` with the numeric
+-- code of the refusal.
 abbrev pub reply_text : History → (at : ℕ) → Event → Result Answer Refusal → List ℕ
 reply_text past at e (Ok given) =
     accepted_text given (notes_after past at e (Ok given)) (outgoing_after past at e (Ok given))
@@ -125,12 +128,12 @@ reply_text past at e (Err why) = refused_line why
 abbrev pub faults_text : List FaultyRow → List ℕ
 faults_text rows = flat_map fault_line rows ++ refused_line Limit
 
--- The text that reports that an entry needs a confirmation, with the energy in mWh that the entry
--- would record.
+-- The text that reports that a manual entry needs a confirmation, with the energy in mWh that the
+-- entry would record.
 abbrev pub doubted_line : (mwh : ℕ) → List ℕ
 doubted_line mwh = codes "doubted " ++ decimal mwh ++ codes "\n"
 
--- The text that reports that a meter's counter can't be read.
+-- The text that reports that a meter's counter can't be read from the device.
 abbrev pub unread_line : List ℕ
 unread_line = codes "unread\n"
 
@@ -149,8 +152,8 @@ pub record IsAskedAt (latest : ℕ) (begun now : Option (List ℕ)) (at : ℕ) :
   pub reports : ReportsMoment begun now reported
   pub is : at ≡ max latest reported
 
--- True if the outcome has the timestamp of its input line. A line with a faulty point list needs no
--- timestamp, so the clock is not read.
+-- True if the outcome of an input line has the timestamp that the line requires. A line with a
+-- faulty point list needs no timestamp, so the clock is not read.
 abbrev pub IsTimed : (latest : ℕ) → (begun now : Option (List ℕ)) → Came → Type 0
 IsTimed latest begun now (Asked one) = IsAskedAt latest begun now one.at
 IsTimed latest begun now (Faulty rows) = now ≡ begun
@@ -177,8 +180,8 @@ pub record Takes {B : Type 0} (ledger : B → Ledger) (past : History) (latest :
   pub answered : IsCameAnswered past begun.failures now.failures came
   pub timed : IsTimed latest begun.moments now.moments came
 
--- True if the input line was processed and its text was printed, or a part of the text if the write
--- failed.
+-- True if the input line was processed and the text that reports its outcome was printed, or a part
+-- of this text if the write failed.
 pub record TakesLine {B E : Type 0} (ledger : B → Ledger) (past : History) (progress : Progress)
     (begun now : RoundState) (office : Office B) (result : Result Progress E) (came : Came) : Type 0
   where
@@ -212,16 +215,17 @@ EntersLine ledger reports caller line past progress begun now old new (Err Faile
     × GotPart (bad_line line.number) begun.printed now.printed)
     ⊎ (IsUntouched begun now old new × Appends begun.printed now.printed [])
 
--- The next definitions give the outcomes of several input lines. The lists have the latest line
--- first.
+-- The next definitions combine the outcomes of several input lines. In lists of processed lines,
+-- the line that was processed last comes first.
 
--- A processed input line with its outcome.
+-- A processed input line with its outcome: the request that the line fed to the event engine and
+-- the answer, or the reason why the line fed no request.
 pub record Taken : Type 0 where
   pub line : Line
   pub came : Came
 
--- The lines of an input in their original order. The processed lines are stored with the latest
--- first, and `rest` are the lines after them.
+-- The lines of an input (a text of request lines) in their original order. The processed lines are
+-- stored with the latest first, and `rest` are the lines after them.
 abbrev pub lines_with : List Taken → (rest : List Line) → List Line
 lines_with [] rest = rest
 lines_with (one ∷ earlier) rest = lines_with earlier (one.line ∷ rest)
@@ -231,22 +235,24 @@ abbrev pub history_with : History → List Taken → History
 history_with past [] = past
 history_with past (one ∷ earlier) = with_came (history_with past earlier) one.came
 
--- True if the outcome of each input line in the list is possible for the line's parsed form, after
--- the earlier lines.
+-- True if each input line in the list has an outcome that the specification (`Comes`) allows for
+-- the line's text after the earlier lines of the list.
 abbrev pub AreComing : Reporting → (caller : Option (List ℕ)) → History → List Taken → Type 0
 AreComing reports caller past [] = Unit {0}
 AreComing reports caller past (one ∷ earlier) =
     Comes reports caller (history_with past earlier) one.line.text one.came
     × AreComing reports caller past earlier
 
--- True if each input line in the list has the defined outcome after the earlier lines.
+-- True if each input line in the list has the outcome that the specification gives after the
+-- earlier lines of the list.
 abbrev pub AreAnswered : History → (before after : Failures) → List Taken → Type 0
 AreAnswered past before after [] = after ≡ before
 AreAnswered past before after (one ∷ earlier) =
     (between : Failures) × AreAnswered past before between earlier
     × IsCameAnswered (history_with past earlier) between after one.came
 
--- The progress after a list of input lines, if the first timestamp was `first`.
+-- The progress after a list of input lines, if the first timestamp was `first`: the latest
+-- timestamp, and whether any line was refused.
 abbrev pub progress_of : (first : ℕ) → List Taken → Progress
 progress_of first [] = record { latest = first; refused = false }
 progress_of first (one ∷ earlier) = progress_after (progress_of first earlier) one.came
@@ -259,7 +265,7 @@ AreTimed first begun now (one ∷ earlier) =
     (between : Option (List ℕ)) × AreTimed first begun between earlier
     × IsTimed (progress_of first earlier).latest between now one.came
 
--- The text that is printed for the processed lines, in the order of the lines.
+-- The text that reports the outcomes of the processed input lines, in the order of the lines.
 abbrev pub text_after : History → List Taken → List ℕ
 text_after past [] = []
 text_after past (one ∷ earlier) =
@@ -267,8 +273,8 @@ text_after past (one ∷ earlier) =
 
 -- True if the input lines in `taken` were processed in order.
 --
--- Each line has the defined outcome after the earlier lines, at its timestamp. The event engine is
--- in the state after all lines.
+-- Each input line has the outcome that the specification gives after the earlier lines of the list,
+-- at the line's timestamp. The event engine is in the state after all lines.
 pub record AreTaken {B : Type 0} (ledger : B → Ledger) (reports : Reporting)
     (caller : Option (List ℕ)) (past : History) (first : ℕ) (begun now : RoundState)
     (office : Office B) (taken : List Taken) : Type 0 where

@@ -1,5 +1,5 @@
--- The result of entering an input: its lines are processed in order, up to the first bad line. Each
--- line makes a request to the office (the event engine).
+-- The result of entering an input (a text of request lines): its lines are processed in order, up
+-- to the first bad line. Each line makes a request to the office (the event engine).
 use Rattle.std.specs.Prelude.{◌≡◌, ◌⊎◌, ℕ, List, [], ◌∷◌, ◌++◌, Option, if◌then◌else◌}
 use Rattle.std.specs.Io.KnownBytes.{Appends}
 use Rattle.std.specs.declared.io.Write as writers
@@ -24,8 +24,8 @@ use Rattle.office_program.specs.declared.entering.progress.Progress.{Progress}
 use Rattle.office_program.specs.Entering.Course.{AreTaken, Taken, lines_with, progress_of, text_after}
 use Rattle.office_program.specs.Entering.Lines.{IsBad, Reporting}
 
--- The exit status if no line of an input is bad. If a line was refused or made no request, the
--- status is `Refused`, otherwise `Fine`.
+-- The exit status if no line of an input (a text of request lines) is bad. If a line was refused or
+-- made no request, the status is `Refused`, otherwise `Fine`.
 abbrev pub status_of : Progress → ExitStatus
 status_of progress = if progress.refused then Refused else Fine
 
@@ -37,32 +37,33 @@ pub record IsStopped (reports : Reporting) (lines : List Line) (taken : List Tak
   pub follow : lines ≡ lines_with taken (line ∷ rest)
   pub bad : IsBad reports line.text
 
--- The text that is printed if a bad line ends the command: the text of the processed lines,
--- followed by the message for the bad line.
+-- The text that is printed if a bad line ends the command that enters an input: the text of the
+-- processed lines, followed by the message for the bad line.
 abbrev pub stopped_text : {reports : Reporting} {lines : List Line} {taken : List Taken} → History
     → IsStopped reports lines taken → List ℕ
 stopped_text {taken = taken} past stopped = text_after past taken ++ bad_line stopped.line.number
 
--- True if the command ended after the last line. The text of all lines was printed, and the exit
--- status follows from their outcomes.
+-- True if the command that enters an input ended after the last line. The text of all lines was
+-- printed, and the exit status follows from their outcomes.
 pub record IsWhole (lines : List Line) (past : History) (first : ℕ) (taken : List Taken)
     (status : ExitStatus) (had holds : Option (List ℕ)) : Type 0 where
   pub follow : lines ≡ lines_with taken []
   pub printed : Appends had holds (text_after past taken)
   pub means : status ≡ status_of (progress_of first taken)
 
--- True if the command ended at a bad line. The text up to the message for the bad line was printed,
--- and the exit status is `Refused`.
+-- True if the command that enters the lines of an input text ended at a bad line. The text up to
+-- the message for the bad line was printed, and the exit status is `Refused`.
 pub record IsStoppedReported (reports : Reporting) (lines : List Line) (past : History) (taken : List Taken)
     (status : ExitStatus) (had holds : Option (List ℕ)) : Type 0 where
   pub stopped : IsStopped reports lines taken
   pub printed : Appends had holds (stopped_text past stopped)
   pub means : status ≡ Refused
 
--- True if a failed write or lack of memory ended the command, with the exit status `Failed`.
+-- True if a failed write or lack of memory ended the command that enters an input, with the exit
+-- status `Failed`.
 --
--- A part of the text of the processed lines was printed, or the complete text and a part of the
--- message for a bad line.
+-- If a failure ended the command that enters an input, a part of the processed lines' text was
+-- printed, or all of it and a part of the last message.
 pub record IsBrokenOff (reports : Reporting) (lines : List Line) (past : History) (taken : List Taken)
     (status : ExitStatus) (had holds : Option (List ℕ)) : Type 0 where
   pub rest : List Line
@@ -71,8 +72,8 @@ pub record IsBrokenOff (reports : Reporting) (lines : List Line) (past : History
       ⊎ ((stopped : IsStopped reports lines taken) × GotPart (stopped_text past stopped) had holds)
   pub means : status ≡ Failed
 
--- True if entering an input ended in one of three ways: after the last line, at a bad line, or by a
--- failure.
+-- True if entering an input (a text of request lines) ended in one of three ways: after the last
+-- line, at a bad line, or by a failure.
 abbrev pub IsEnd : Reporting → List Line → History → (first : ℕ) → List Taken → ExitStatus
     → (had holds : Option (List ℕ)) → Type 0
 IsEnd reports lines past first taken status had holds =
@@ -89,8 +90,8 @@ pub record EntersLines {B : Type 0} (ledger : B → Ledger) (reports : Reporting
   pub are : AreTaken ledger reports caller past first begun now office taken
   pub ends : IsEnd reports lines past first taken status begun.printed now.printed
 
--- The contract of entering an input. `EntersLines` states the result, whatever events the event
--- engine accepted before.
+-- The contract of entering an input (a text of request lines). The definition `EntersLines` states
+-- the result, whatever events the event engine accepted before.
 abbrev pub EntersTextOf : {B C W : Type 0} → stores.Ghosts B → clocks.Ghosts C → writers.Ghosts W
     → Reporting → (caller : Option (List ℕ)) → (text : List ℕ) → (first : ℕ) → (old new : Office B)
     → (before after : C) → (had holds : W) → ExitStatus → Type 0
@@ -98,8 +99,8 @@ EntersTextOf b c w reports caller text first old new before after had holds stat
     After b.ledger old new (EntersLines b.ledger reports caller (speaking_lines text) first
     (desk_of b c w old before had) (desk_of b c w new after holds) new status)
 
--- True if the input was entered into an event engine that was opened for the input. The timestamp
--- of each line is at least the timestamp at which the engine was opened.
+-- True if the input (a text of request lines) was entered into an event engine that was opened for
+-- it. The timestamp of each line is at least the timestamp at which the engine was opened.
 abbrev pub Enters : {B : Type 0} → (B → Ledger) → Reporting → (caller : Option (List ℕ))
     → (text : List ℕ) → (later had holds : Option (List ℕ)) → ExitStatus
     → (following : History) → (since : Option (List ℕ)) → (opened left : Office B) → Type 0
@@ -108,8 +109,8 @@ Enters ledger reports caller text later had holds status following since opened 
     (round_state had since (failures_of ledger opened))
     (round_state holds later (failures_of ledger left)) left status following
 
--- True if the event engine was opened and the input was entered. Also true if opening the engine
--- was refused and only the refusal was printed.
+-- True if the event engine was opened and the input (a text of request lines) was entered. Also
+-- true if opening the engine was refused and only the refusal was printed.
 abbrev pub ReportsEntering : {B : Type 0} → (B → Ledger) → (past : History) → Reporting
     → (caller text : List ℕ) → (moments later : Option (List ℕ)) → (books back : B)
     → (had holds : Option (List ℕ)) → ExitStatus → Type 0
@@ -118,8 +119,8 @@ ReportsEntering ledger past reports caller text moments later books back had hol
     ⊎ WithOffice ledger past moments back
     (Enters ledger reports (named caller) text later had holds status)
 
--- The contract of the command that enters an input, for any accepted events that the store records.
--- `ReportsEntering` states the result.
+-- The contract of the command that enters an input (a text of request lines), for any accepted
+-- events that the store records. The definition `ReportsEntering` states the result.
 abbrev pub EntersOver : {B C W : Type 0} → stores.Ghosts B → clocks.Ghosts C → writers.Ghosts W
     → Reporting → (caller text : List ℕ) → (books back : B) → (before after : C) → (had holds : W)
     → ExitStatus → Type 0

@@ -5,7 +5,8 @@ use Rattle.std.specs.Str.{bytes_eq}
 use Rattle.script_text.specs.LineWords.Fields.{AnyName, Field, Number, Of, Spell, Word, first_value, end_of_words, ◌>>=◌}
 use Rattle.office_program.specs.declared.entering.file_line.FileLine as declared
 
--- An input line that names a file: the number of its request, the device, and the name of the file.
+-- An input line that names a point-list file: the request number that the line states, the device,
+-- and the name of the file.
 pub record FileLine : Type 0 where
   pub number : ℕ
   pub device : Option (List ℕ)
@@ -17,7 +18,7 @@ file_form line =
     Of Number line.number ∷ Word (codes "list") ∷ Of AnyName line.device ∷ Word (64 ∷ line.name)
     ∷ []
 
--- True if the words form exactly this input line, which names a file.
+-- True if the words form exactly the given input line, which names a file.
 abbrev pub IsFileLine : (words : List (List ℕ)) → FileLine → Type 0
 IsFileLine words line = Spell words (file_form line)
 
@@ -36,8 +37,8 @@ abbrev pub file_in : List ℕ → Option (List ℕ)
 file_in [] = None
 file_in (byte ∷ name) = if byte == 64 then Some name else None
 
--- The name of a file in the first word, and the words after the first word. `None` if the first
--- word does not begin with `@`.
+-- The file name in the first of the given words (without the word's `@`), and the words after the
+-- first one. `None` if the first word does not begin with `@`.
 abbrev pub file_word : List (List ℕ) → Option (List ℕ × List (List ℕ))
 file_word [] = None
 file_word (word ∷ words) = option_map (λ name. (name, words)) (file_in word)

@@ -1,7 +1,8 @@
 -- The request that an input line makes.
 --
--- An input line is a line of a script whose first word is the request's number. The line may end
--- with the mark ` !`, or name the file of a point list.
+-- An input line is a line of a script (a text of commands), whose first word is the request's
+-- number instead of a timestamp. The line may end with the mark ` !`, which confirms an entry by
+-- hand, or name the file of a point list.
 use Rattle.std.specs.Prelude.{◌≡◌, ◌≢◌, ◌⊎◌, ℕ, ℤ, Bool, true, false, List, [], ◌∷◌, ◌++◌, Option, Some, None, Result, Ok, Err, if◌then◌else◌}
 use Rattle.point_list.specs.Lists.{SpellsList, list_faults, rows_read}
 use Rattle.read_plan.specs.PlannedLists.{IsPlanned, Planned}
@@ -39,11 +40,12 @@ pub record Reporting : Type 1 where
   pub counters : Device → Register → Option Shown → Type 0
 
 -- The possible results of reading files and counters, for an implementation of the trait
--- `NamedFiles`.
+-- `NamedFiles` (a reader of the files and counters that an input names).
 abbrev pub reporting_of : {F : Type 0} → surroundings.Ghosts F → F → Reporting
 reporting_of f files = record { files = f.reports files; counters = f.shows files }
 
--- The request in a line of a script. The line has the request's number instead of a timestamp.
+-- The request in a line of a script (a text of commands). The line has the request's number instead
+-- of a timestamp.
 
 -- True if the command is allowed in an input line. Only commands that start polls are not allowed.
 abbrev pub is_request : Command → Bool
@@ -65,24 +67,25 @@ is_by_hand _ = false
 abbrev pub can_be_asked : (marked : Bool) → Command → Bool
 can_be_asked marked c = if marked then is_by_hand c else is_request c
 
--- The request in a line with this command: the command with the request's number, or `Nothing` if
--- the command is not allowed in the line.
+-- The request in a line with the given command: the command with the request's number, or `Nothing`
+-- if the command is not allowed in the line.
 abbrev pub wanted_by : (marked : Bool) → (number : ℕ) → Command → Wanted
 wanted_by marked number c =
     if can_be_asked marked c then wanted.Command number c else wanted.Nothing
 
--- The request in a line with this event: the event's command, or `Nothing` for an event of a
--- device.
+-- The request of an input line that has an event. It is the event's command, or `Nothing` for an
+-- event of a device or for a command that the line may not have.
 abbrev pub wanted_of : (marked : Bool) → (number : ℕ) → Event → Wanted
 wanted_of marked number (event.Command c) = wanted_by marked number c
 wanted_of marked number _ = wanted.Nothing
 
 -- The request in a line with a point list. The request is the list, or `Nothing` if the line has
--- the mark ` !`, which only an entry by hand can have.
+-- the mark ` !`, which can only confirm an entry by hand.
 abbrev pub wanted_list : (marked : Bool) → (number : ℕ) → GivenList → Wanted
 wanted_list marked number list = if marked then wanted.Nothing else wanted.List number list
 
--- The request in a line of a script. The line has the request's number instead of a timestamp.
+-- The request in a line of a script (a text of commands). The line has the request's number instead
+-- of a timestamp.
 abbrev pub wanted_in : (marked : Bool) → ScriptLine → Wanted
 wanted_in marked (line.Event number e) = wanted_of marked number e
 wanted_in marked (line.List number list) = wanted_list marked number list
@@ -91,14 +94,15 @@ wanted_in marked _ = wanted.Nothing
 -- The next definitions give the parsed form of an input line: a request, a request that needs a
 -- counter's reading, or faulty rows.
 
--- The request for this command, with the caller, the number, and the bytes of the request that the
--- store keeps.
+-- The request for the given command, with the caller, the number, and the bytes of the request that
+-- the store keeps.
 abbrev pub asked_by : (caller : Option (List ℕ)) → (number : ℕ) → (request : List ℕ) → Command
     → Asked
 asked_by caller number request c =
     record { caller = caller; number = number; request = request; command = c }
 
--- True if the text spells this point list, and the list's plan has the Modbus reads for its points.
+-- True if the text spells the point list `list`, and the list's plan has the Modbus reads that
+-- cover the list's points.
 pub record IsListOf (text : List ℕ) (list : Planned) : Type 0 where
   pub points : SpellsList text list.points
   pub planned : IsPlanned list
@@ -107,8 +111,8 @@ pub record IsListOf (text : List ℕ) (list : Planned) : Type 0 where
 abbrev pub append_by : (device : Option (List ℕ)) → Planned → Command
 append_by device list = command.PutList (record { device = device; list = list })
 
--- True if the entry is the parsed form of a line with the point list `text`: a request for this
--- list, or the list's faulty rows.
+-- True if `entry` is the parsed form of an input line with the point list `text`: a request for
+-- this list, or the list's faulty rows.
 abbrev pub IsListEntry : (caller : Option (List ℕ)) → (number : ℕ) → (device : Option (List ℕ))
     → (text request : List ℕ) → Entry → Type 0
 IsListEntry caller number device text request (Ask asked) =
@@ -118,8 +122,8 @@ IsListEntry caller number device text request (Faulty rows) =
     (list_faults (rows_read text) ≢ []) × (rows ≡ list_faults (rows_read text))
 IsListEntry caller number device text request (Read read) = ⊥
 
--- True if `entry` is the parsed form of a script's line with this request. The store keeps the
--- line's bytes, including the mark ` !`.
+-- True if `entry` is the parsed form of an input line with this request. The store keeps the line's
+-- bytes, including the mark ` !`, which confirms an entry by hand.
 abbrev pub IsWantedEntry : (caller : Option (List ℕ)) → (text : List ℕ) → Wanted → Entry → Type 0
 IsWantedEntry caller text (wanted.Command number c) entry =
     entry ≡ Ask (asked_by caller number text c)
@@ -127,7 +131,8 @@ IsWantedEntry caller text (wanted.List number list) entry =
     IsListEntry caller number list.device list.text text entry
 IsWantedEntry caller text wanted.Nothing entry = ⊥
 
--- True if `entry` is the parsed form of an input line that is a line of a script.
+-- True if `entry` is the parsed form of an input line that is a line of a script (a text of
+-- commands).
 pub record IsScriptEntry (caller : Option (List ℕ)) (text : List ℕ) (entry : Entry) : Type 0 where
   pub said : ScriptLine
   pub is : IsOnly (words_of (unmarked text)) said
@@ -156,16 +161,18 @@ pub record IsReadEntry (caller : Option (List ℕ)) (text : List ℕ) (entry : E
   pub is : IsRead text line
   pub comes : entry ≡ Read (record { caller = caller; request = text; line = line })
 
--- True if the entry is the parsed form of the input line, which names a file, has `@read`, or is a
--- line of a script.
+-- True if `entry` is the parsed form of the input line. The line is of one of three kinds. It names
+-- the file of a point list, or has `@read` (a placeholder for the counter's reading, which is read
+-- later). Otherwise it is a line of a script (a text of commands).
 abbrev pub IsEntry : Reporting → (caller : Option (List ℕ)) → (text : List ℕ) → Entry → Type 0
 IsEntry reports caller text entry =
     IsFileEntry reports caller text entry
     ⊎ (IsNoFileLine (words_of text)
     × (IsReadEntry caller text entry ⊎ (IsNoRead text × IsScriptEntry caller text entry)))
 
--- True if a parsed line can make this request. A line with `@read` makes one request with the
--- reading of a counter. Any reading is allowed here, because the counter is read later.
+-- True if a parsed line can make the given request. A line with `@read` (the placeholder for a
+-- reading) makes one request with the reading of a counter. Any reading is allowed here, because
+-- the counter is read later.
 abbrev pub MayAsk : Entry → Asked → Type 0
 MayAsk (Ask asked) request = request ≡ asked
 MayAsk (Read read) request = (raw : ℕ) × (sf : ℤ) × (request ≡ asked_at read raw sf)
@@ -176,13 +183,14 @@ abbrev pub LacksFile : Reporting → (text : List ℕ) → Type 0
 LacksFile reports text =
     (named : FileLine) × IsFileLine (words_of text) named × reports.files named.name None
 
--- True if the text is no line of a script that makes a request.
+-- True if the text is no line of a script (a text of commands) that makes a request.
 abbrev pub IsNoRequest : (text : List ℕ) → Type 0
 IsNoRequest text = (said : ScriptLine) → IsLine (words_of (unmarked text)) said
     → wanted_in (is_marked text) said ≡ wanted.Nothing
 
 -- True if the line is bad. A bad line names a file that does not exist, or has none of the three
--- forms of an input line: it names no file, has no `@read`, and is no request of a script.
+-- forms of an input line. These are a line that names a file, a line with `@read` (a reading's
+-- placeholder), and a line of a script (a text of commands) with a request.
 abbrev pub IsBad : Reporting → (text : List ℕ) → Type 0
 IsBad reports text =
     LacksFile reports text ⊎ (IsNoFileLine (words_of text) × IsNoRead text × IsNoRequest text)
@@ -190,16 +198,16 @@ IsBad reports text =
 -- The next definitions give the result of parsing an input line. They state nothing about the line
 -- if memory ran out.
 
--- States that an `Ok` result is the parsed form of the script's line, and that the line has no
--- request if the result is `Bad`. States nothing if memory ran out.
+-- States that an `Ok` result is the parsed form of a line of a script (a text of commands), and
+-- that a result `Bad` means a line without a request. States nothing if memory ran out.
 abbrev pub ReadsWanted : (caller : Option (List ℕ)) → (text : List ℕ) → Wanted
     → Result Entry LineFault → Type 0
 ReadsWanted caller text want (Ok entry) = IsWantedEntry caller text want entry
 ReadsWanted caller text want (Err Bad) = want ≡ wanted.Nothing
 ReadsWanted caller text want (Err Memory) = Unit {0}
 
--- States that an `Ok` result is the parsed form of the line with the point list `text`, and that
--- the result is not `Bad`.
+-- States that an `Ok` result is the parsed form of the input line with the point list `text`. An
+-- error can only be `Memory` (out of memory), never `Bad` (no such line).
 abbrev pub ReadsList : (caller : Option (List ℕ)) → (number : ℕ) → (device : Option (List ℕ))
     → (text request : List ℕ) → Result Entry LineFault → Type 0
 ReadsList caller number device text request (Ok entry) =
@@ -207,8 +215,8 @@ ReadsList caller number device text request (Ok entry) =
 ReadsList caller number device text request (Err Bad) = ⊥
 ReadsList caller number device text request (Err Memory) = Unit {0}
 
--- States that an `Ok` result is the parsed form of the script's line, and that the line makes no
--- request if the result is `Bad`.
+-- States that an `Ok` result is the parsed form of a line of a script (a text of commands), and
+-- that a result `Bad` means a line without a request.
 abbrev pub ReadsScript : (caller : Option (List ℕ)) → (text : List ℕ) → Result Entry LineFault
     → Type 0
 ReadsScript caller text (Ok entry) = IsScriptEntry caller text entry
@@ -225,7 +233,7 @@ ReadsCounter caller text line (Err Bad) = ⊥
 ReadsCounter caller text line (Err Memory) = Unit {0}
 
 -- States that an `Ok` result is the parsed form of a line that names no file. If the result is
--- `Bad`, the line has no `@read` and makes no request of a script.
+-- `Bad`, the line has no `@read` and makes no request of a script (a text of commands).
 abbrev pub ReadsUnnamed : (caller : Option (List ℕ)) → (text : List ℕ) → Result Entry LineFault
     → Type 0
 ReadsUnnamed caller text (Ok entry) =
@@ -243,8 +251,8 @@ ReadsFile reports caller text named (Ok entry) =
 ReadsFile reports caller text named (Err Bad) = reports.files named.name None
 ReadsFile reports caller text named (Err Memory) = Unit {0}
 
--- States that an `Ok` result is the parsed form of the line, and that the line is bad if the result
--- is `Bad`. States nothing if memory ran out.
+-- States that an `Ok` result of parsing an input line is the line's parsed form. If the result is
+-- `Bad`, the line has no permitted form, or names a missing file. States nothing if memory ran out.
 abbrev pub ReadsEntry : Reporting → (caller : Option (List ℕ)) → (text : List ℕ)
     → Result Entry LineFault → Type 0
 ReadsEntry reports caller text (Ok entry) = IsEntry reports caller text entry

@@ -12,8 +12,8 @@ use Rattle.office_program.specs.declared.entering.read_line.ReadLine.TheVariants
 use Rattle.office_program.specs.declared.entering.read_line.ReadRequest.{ReadRequest}
 use Rattle.office_program.specs.Entering.Marks.{is_marked, unmarked}
 
--- The words of an input line with `@read`, which installs a meter or exchanges one meter for
--- another.
+-- The words of an input line with `@read` (the placeholder for a reading), which installs a meter
+-- or exchanges one meter for another.
 abbrev pub read_form : ReadLine → List Field
 read_form (read.Install number register meter ceiling range) =
     Of Number number ∷ Word (codes "install") ∷ Of AnyName register ∷ Of AnyName meter
@@ -23,8 +23,8 @@ read_form (read.Exchange number register last rolls meter ceiling range) =
     ∷ Of Number rolls ∷ Of AnyName meter ∷ Word (codes "@read") ∷ Of Number ceiling
     ∷ Of Range range ∷ []
 
--- True if the words form exactly this line with `@read`, the placeholder for a counter's present
--- reading.
+-- True if the words form exactly the given line with `@read`, the placeholder for a counter's
+-- present reading.
 abbrev pub IsReadLine : (words : List (List ℕ)) → ReadLine → Type 0
 IsReadLine words line = Spell words (read_form line)
 
@@ -36,7 +36,8 @@ IsNoReadLine words = (line : ReadLine) → IsReadLine words line → ⊥
 -- The next definitions give the request's number, the accounting register and the command of a line
 -- with `@read`, a placeholder for the counter's reading.
 
--- The number of the request in an input line with `@read`.
+-- The number of the request in an input line with `@read`. This placeholder is replaced by a
+-- reading of the meter's counter when the line is processed.
 abbrev pub number_of : ReadLine → ℕ
 number_of (read.Install number register meter ceiling range) = number
 number_of (read.Exchange number register last rolls meter ceiling range) = number
@@ -46,8 +47,8 @@ abbrev pub register_of : ReadLine → Option (List ℕ)
 register_of (read.Install number register meter ceiling range) = register
 register_of (read.Exchange number register last rolls meter ceiling range) = register
 
--- The command of the line with `@read`, where the counter's reading `raw` and `sf` replaces
--- `@read`.
+-- The command that results from a request line whose counter value is written as `@read`. The value
+-- that was read from the counter replaces `@read`: the count `raw` and the scale factor `sf`.
 abbrev pub command_at : ReadLine → (raw : ℕ) → (sf : ℤ) → Command
 command_at (read.Install number register meter ceiling range) raw sf =
     command.Install (record {
@@ -70,8 +71,8 @@ command_at (read.Exchange number register last rolls meter ceiling range) raw sf
       range = range;
     })
 
--- The request of the line with `@read`, where the counter's reading `raw` and `sf` replaces
--- `@read`.
+-- The request of an input line with `@read`, after the counter was read. The reading, which has the
+-- count `raw` and the scale factor `sf`, replaces the placeholder `@read`.
 abbrev pub asked_at : ReadRequest → (raw : ℕ) → (sf : ℤ) → Asked
 asked_at read raw sf = record {
   caller = read.caller;
@@ -90,14 +91,14 @@ abbrev pub may_end : (marked : Bool) → ReadLine → Bool
 may_end marked (read.Install number register meter ceiling range) = not marked
 may_end marked (read.Exchange number register last rolls meter ceiling range) = true
 
--- True if the text is this line with `@read` (the placeholder for a counter's reading), with or
--- without the mark ` !` (a confirmation).
+-- True if the text is the given line with `@read` (the placeholder for a counter's reading), with
+-- or without the mark ` !` (a confirmation).
 pub record IsRead (text : List ℕ) (line : ReadLine) : Type 0 where
   pub is : IsReadLine (words_of (unmarked text)) line
   pub may : may_end (is_marked text) line ≡ true
 
--- True if the text is not a valid line with `@read`, the placeholder for a counter's present
--- reading. The text may be a valid line without `@read`, or no valid line at all.
+-- True if the text is not a valid line with `@read` (which the program replaces by the counter's
+-- present reading). The text may be a valid line without `@read`, or no valid line at all.
 abbrev pub IsNoRead : (text : List ℕ) → Type 0
 IsNoRead text = (line : ReadLine) → IsRead text line → ⊥
 
@@ -120,7 +121,8 @@ install_said number words =
     end_of_words range.1 >>= λ none.
     Some (read.Install number register.0 meter.0 ceiling.0 range.0)
 
--- The exchange of meters that the words after `exchange` form, or `None` if they form none.
+-- The exchange of meters (a request in an input line) that the words after `exchange` form, or
+-- `None` if they form none.
 abbrev pub exchange_said : (number : ℕ) → List (List ℕ) → Option ReadLine
 exchange_said number words =
     first_value AnyName words >>= λ register.
@@ -133,8 +135,8 @@ exchange_said number words =
     end_of_words range.1 >>= λ none.
     Some (read.Exchange number register.0 last.0 rolls.0 meter.0 ceiling.0 range.0)
 
--- Parses the words after the verb (`install` or `exchange`) of a line with `@read`. `None` if the
--- words are no such line.
+-- Parses the words after the verb (`install` or `exchange`) of a line with `@read`, the placeholder
+-- that a reading of the counter replaces. `None` if the words are no such line.
 abbrev pub line_said : (number : ℕ) → (verb : List ℕ) → List (List ℕ) → Option ReadLine
 line_said number verb words =
     if bytes_eq verb (codes "install") then install_said number words

@@ -53,8 +53,8 @@ IsNotShown reports facts register =
     (option_and_then (register_of facts) register ≡ None) ⊎ LacksDevice facts register
     ⊎ IsCounterReported reports facts register None
 
--- True if the result is possible for the line: `Some` with the reading at which the line installs
--- its meter, or `None` if the counter can't be read.
+-- True if the result is possible for an input line with `@read`: `Some` with the reading at which
+-- the line installs its meter, or `None` if the meter's counter can't be read from the device.
 --
 -- If the store already has the request, any reading is possible, because the counter is not read.
 -- Otherwise the reading is that of the accounting register's counter.
@@ -65,7 +65,7 @@ IsShownFor reports facts read (Some shown) =
 IsShownFor reports facts read None =
     (repeat_of_read facts read ≡ None) × IsNotShown reports facts (line.register_of read.line)
 
--- True if the request installs the meter at the reading that was found for the line.
+-- True if the request installs the meter at the reading that was found for the input line.
 abbrev pub AsksShown : Reporting → List Fact → ReadRequest → Asked → Type 0
 AsksShown reports facts read request =
     (shown : Shown) × IsShownFor reports facts read (Some shown)
@@ -73,24 +73,25 @@ AsksShown reports facts read request =
 
 -- The next definitions give the event engine's answer to the query for a counter's reading.
 
--- States that on `Ok` the office (the event engine) found the reading or found that there is none.
--- On an error, the engine refused the query because of a failure.
+-- States that on `Ok` the office (the event engine) found the requested reading of a counter, or
+-- found that the store has none. On an error, the engine refused the query because of a failure.
 abbrev pub HasShown : Reporting → List Fact → ReadRequest → (before after : Failures)
     → Result (Option Shown) Refusal → Type 0
 HasShown reports facts read before after (Ok found) =
     IsShownFor reports facts read found × (after ≡ before)
 HasShown reports facts read before after (Err why) = IsOutside ⊥ before after why
 
--- True if the event engine found the reading for the line, or refused the query because of a
--- failure. Its accepted events are still `past`, since a query records nothing.
+-- True if the event engine found the counter's reading for the input line, or refused the query
+-- because of a failure. The engine's accepted events are still `past`, since a query records
+-- nothing.
 pub record IsFilled {B : Type 0} (ledger : B → Ledger) (reports : Reporting) (read : ReadRequest)
     (past : History) (before after : Failures) (office : Office B)
     (result : Result (Option Shown) Refusal) : Type 0 where
   pub stands : Stands ledger past office
   pub reported : HasShown reports (facts_of past) read before after result
 
--- The contract of finding the counter's reading for an input line. `IsFilled` states the result,
--- whatever events the event engine accepted before.
+-- The contract of finding the counter's reading for an input line. The definition `IsFilled` states
+-- the result, whatever events the event engine accepted before.
 abbrev pub Fills : {B : Type 0} → (B → Ledger) → Reporting → ReadRequest → (old new : Office B)
     → Result (Option Shown) Refusal → Type 0
 Fills ledger reports read old new result = After ledger old new (λ past.
@@ -100,7 +101,7 @@ Fills ledger reports read old new result = After ledger old new (λ past.
 -- counter.
 
 -- True if the result is possible for the accounting register's counter: `Some` with the counter's
--- reading, or `None` if the counter can't be read.
+-- reading, or `None` if the counter can't be read from the register's device.
 abbrev pub IsCounterFor : Reporting → List Fact → (register : Option (List ℕ)) → Option Shown → Type 0
 IsCounterFor reports facts register (Some shown) = IsCounterReported reports facts register (Some shown)
 IsCounterFor reports facts register None = IsNotShown reports facts register
@@ -114,15 +115,15 @@ HasCounter reports facts register before after (Ok found) =
 HasCounter reports facts register before after (Err why) = IsOutside ⊥ before after why
 
 -- True if the event engine found the counter's reading, or refused the query because of a failure.
--- Its accepted events are still `past`, since a query records nothing.
+-- The engine's accepted events are still `past`, since a query records nothing.
 pub record IsReadThere {B : Type 0} (ledger : B → Ledger) (reports : Reporting)
     (register : Option (List ℕ)) (past : History) (before after : Failures) (office : Office B)
     (result : Result (Option Shown) Refusal) : Type 0 where
   pub stands : Stands ledger past office
   pub reported : HasCounter reports (facts_of past) register before after result
 
--- The contract of reading the counter of an accounting register by the register's name.
--- `IsReadThere` states the result, whatever events the event engine accepted before.
+-- The contract of reading the counter of an accounting register by the register's name. The
+-- definition `IsReadThere` states the result, whatever events the event engine accepted before.
 abbrev pub ReadsThere : {B : Type 0} → (B → Ledger) → Reporting → (register : Option (List ℕ))
     → (old new : Office B) → Result (Option Shown) Refusal → Type 0
 ReadsThere ledger reports register old new result = After ledger old new (λ past.
@@ -130,7 +131,7 @@ ReadsThere ledger reports register old new result = After ledger old new (λ pas
     result)
 
 -- The contract of reading the counter of an accounting register that was already looked up by its
--- name. `IsReadThere` states the result for this name.
+-- name. The definition `IsReadThere` states the result for this name.
 abbrev pub ReadsAt : {B : Type 0} → (B → Ledger) → Reporting → Register → (old new : Office B)
     → Result (Option Shown) Refusal → Type 0
 ReadsAt ledger reports counter old new result = (register : Option (List ℕ)) → After ledger old new

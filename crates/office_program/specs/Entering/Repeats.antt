@@ -1,7 +1,7 @@
 -- Retries of requests. The office (the event engine) stores the response to each accepted request.
 --
--- So a request that is retried is executed once, and so is each request of an input that is entered
--- twice.
+-- Because the office stores these responses, it executes a request only once, even if the request
+-- is retried. If an input is entered twice, each of its requests is executed once.
 use Rattle.std.specs.Prelude.{◌≡◌, ◌⊎◌, ℕ, List, [], ◌∷◌, ◌++◌, Option, Result, Ok, IsOk}
 use Rattle.command_io.specs.Lines.{Line}
 use Rattle.office_events.specs.declared.answers.Answer.{Answer}
@@ -18,7 +18,7 @@ use Rattle.office_program.specs.Entering.Course.{AreAnswered, AreComing, Came, T
 use Rattle.office_program.specs.Entering.Course as course
 use Rattle.office_program.specs.Entering.Lines.{Reporting}
 
--- True if both requests have the same caller, number and bytes.
+-- True if the two requests `asked` and `again` have the same caller, number and bytes.
 pub record IsSameRequest (asked again : Asked) : Type 0 where
   pub caller : again.caller ≡ asked.caller
   pub number : again.number ≡ asked.number
@@ -65,13 +65,14 @@ HasRepeated (Undecided at request why) =
     (before after : Failures) × IsOutside ⊥ before after why
 HasRepeated _ = ⊥
 
--- True if each input line was answered as a retry, or refused because of a failure.
+-- True if each input line was answered as a retry, or refused because the store failed, memory ran
+-- out, or the program had stopped.
 abbrev pub HaveRepeated : List Taken → Type 0
 HaveRepeated [] = Unit {0}
 HaveRepeated (one ∷ earlier) = HasRepeated one.came × HaveRepeated earlier
 
--- True if an event engine that had accepted the events `past` processed all lines of the input, and
--- accepted each request.
+-- True if an event engine that had accepted the events `past` processed all lines of the input (a
+-- text of request lines), and accepted each request.
 pub record HasEntered (reports : Reporting) (caller : Option (List ℕ)) (lines : List Line)
     (past : History) (taken : List Taken) : Type 0 where
   pub whole : lines ≡ lines_with taken []
@@ -81,8 +82,8 @@ pub record HasEntered (reports : Reporting) (caller : Option (List ℕ)) (lines 
   pub answered : AreAnswered past before after taken
   pub acted : HaveActed taken
 
--- True if the first lines of the input were processed a second time. The event engine may have
--- accepted other events since the input was entered first.
+-- True if the first lines of the input (a text of request lines) were processed a second time. The
+-- event engine may have accepted other events since the input was entered first.
 pub record EntersAgain (reports : Reporting) (caller : Option (List ℕ)) (lines : List Line)
     (following later : History) (again : List Taken) : Type 0 where
   pub more : History
@@ -95,16 +96,17 @@ pub record EntersAgain (reports : Reporting) (caller : Option (List ℕ)) (lines
   pub after : Failures
   pub answered : AreAnswered later before after again
 
--- True if the lines that were entered a second time had no effect.
+-- True if input lines that were entered a second time added no event to the history of accepted
+-- events.
 --
--- The event engine accepted no new event, and answered each line as a retry or refused it because
--- of a failure.
+-- While the lines were entered again, the event engine accepted no new event. It answered each line
+-- as a retry or refused the line because of a failure.
 pub record ActsNoMore (later : History) (again : List Taken) : Type 0 where
   pub same : history_with later again ≡ later
   pub repeated : HaveRepeated again
 
--- The theorem that if an input was entered completely, then entering the input again has no effect.
--- The files of the input must have the same contents each time.
+-- The theorem that if an input (a text of request lines) was entered completely, then entering the
+-- input again has no effect. The files that the input names must have the same contents each time.
 abbrev pub InputsActOnce : Reporting → Type 0
 InputsActOnce reports =
     (caller : Option (List ℕ)) (lines : List Line) (past later : History) (taken again : List Taken)

@@ -26,15 +26,15 @@ pub record OpensToAsk {B : Type 0} (ledger : B → Ledger) (past : History)
   pub timed : clocks.ReportsMoment moments later reported
   pub stands : Stands ledger (Opened (asking_moment past reported) ∷ past) office
 
--- States that the event engine was opened for queries as `OpensToAsk` describes. States nothing if
--- a wrong result of the store was used.
+-- States that the event engine was opened for queries as `OpensToAsk` describes (each poll that was
+-- pending has the outcome `lost`). States nothing if a wrong result of the store was used.
 abbrev pub OpensToAskWhereClean : {B : Type 0} → (B → Ledger) → (past : History)
     → (moments later : Option (List ℕ)) → Office B → Type 0
 OpensToAskWhereClean ledger past moments later office =
     (ledger (books_in office)).is_clean → OpensToAsk ledger past moments later office
 
--- True if the event engine was not opened, because of the timestamp or a failure, the reason was
--- printed, and the store is as before.
+-- True if the event engine was not opened, because the timestamp was refused, or the store or
+-- memory failed. The reason was printed, and the store is unchanged.
 pub record ReportsUnasked (past : History) (moments later : Option (List ℕ)) (old new : Ledger)
     (status : ExitStatus) (had holds : Option (List ℕ)) : Type 0 where
   pub reported : ℕ
@@ -44,7 +44,7 @@ pub record ReportsUnasked (past : History) (moments later : Option (List ℕ)) (
   pub printed : IsReported (refused_line why) Refused status had holds
 
 -- States that the event engine was not opened and the reason was printed, as `ReportsUnasked`
--- describes. States nothing if a wrong result of the store was used.
+-- describes (the store is unchanged). States nothing if a wrong result of the store was used.
 abbrev pub ReportsUnaskedWhereClean : {B : Type 0} → (B → Ledger) → (past : History)
     → (moments later : Option (List ℕ)) → (books : B) → (had holds : Option (List ℕ))
     → Unopened B → Type 0

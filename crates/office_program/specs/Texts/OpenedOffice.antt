@@ -27,15 +27,15 @@ pub record Opens {B : Type 0} (ledger : B → Ledger) (past : History)
   pub timed : clocks.ReportsMoment moments later at
   pub stands : Stands ledger (Opened at ∷ past) office
 
--- States that the event engine was opened as `Opens` describes. States nothing if a wrong result of
--- the store was used.
+-- States that the event engine was opened as `Opens` describes (each poll that was pending has the
+-- outcome `lost`). States nothing if a wrong result of the store was used.
 abbrev pub OpensWhereClean : {B : Type 0} → (B → Ledger) → (past : History)
     → (moments later : Option (List ℕ)) → Office B → Type 0
 OpensWhereClean ledger past moments later office =
     (ledger (books_in office)).is_clean → Opens ledger past moments later office
 
--- True if the event engine was not opened, because of the timestamp or a failure, the reason was
--- printed, and the store is as before.
+-- True if the event engine was not opened, because the timestamp was refused, or the store or
+-- memory failed. The reason was printed, and the store is unchanged.
 pub record ReportsUnopened (past : History) (moments later : Option (List ℕ)) (old new : Ledger)
     (status : ExitStatus)
     (had holds : Option (List ℕ)) : Type 0 where
@@ -46,7 +46,7 @@ pub record ReportsUnopened (past : History) (moments later : Option (List ℕ)) 
   pub reported : IsReported (refused_line why) Refused status had holds
 
 -- States that the event engine was not opened and the reason was printed, as `ReportsUnopened`
--- describes. States nothing if a wrong result of the store was used.
+-- describes (the store is unchanged). States nothing if a wrong result of the store was used.
 abbrev pub ReportsWhereClean : {B : Type 0} → (B → Ledger) → (past : History)
     → (moments later : Option (List ℕ)) → (books : B) → (had holds : Option (List ℕ))
     → Unopened B → Type 0
@@ -72,8 +72,8 @@ RefusesOver b c w books before after had holds result =
     (w.contents had) (w.contents holds))
 
 -- True if two conditions hold, whether the event engine was opened or not. The store's time zone is
--- unchanged. A store that is clean after the call was clean before the call. A store is clean if no
--- wrong result of the store was used.
+-- unchanged. A store that is clean after the attempt to open the engine was clean before it. A
+-- store is clean if no wrong result of the store was used.
 abbrev pub LastsInside : {B : Type 0} → (B → Ledger) → (books : B)
     → Result (Office B) (Unopened B) → Type 0
 LastsInside ledger books result = MatchResult result

@@ -1,4 +1,5 @@
--- The text of an accounting register's report on a range of days, in the requested form.
+-- The text of an accounting register's report on a range of days, in the
+-- requested period, unit and format.
 use Rattle.std.specs.Prelude.{◌≡◌, ℕ, List, map, Option, Some, Result, Ok, Err, if◌then◌else◌}
 use Rattle.std.specs.Option.{option_and_then}
 use Rattle.std.specs.declared.io.Write as writers
@@ -25,10 +26,12 @@ use Rattle.script_text.specs.AnswerText.{refused_line}
 use Rattle.office_program.specs.Texts.EndTexts.{IsReported, ReportsEnd}
 use Rattle.office_program.specs.Texts.Reports.{meant_by}
 
--- True if `text` is the text of an accounting register's report on a range of days. The text has
--- the days in the range, as civil days of the time zone, in the requested form.
+-- True if `text` is the text of an accounting register's report on a range
+-- of days. The text has the days in the range, as civil days of the time zone, in the requested
+-- period, unit and format.
 --
--- If the report is refused, the text consists of the refusal.
+-- If the event engine refuses an accounting register's report, the printed
+-- text is only the refusal.
 abbrev pub IsRangedReport : Zone → History → (register : Option (List ℕ)) → ReportForm
     → Result (Unit {0}) Refusal → (text : List ℕ) → Type 0
 IsRangedReport zone past register form (Ok done) text =
@@ -37,10 +40,12 @@ IsRangedReport zone past register form (Ok done) text =
     × (text ≡ report_text form days)
 IsRangedReport zone past register form (Err why) text = text ≡ refused_line why
 
--- The text and the exit status of an accounting register's report on a range of days.
+-- The text and the exit status of an accounting register's report on a
+-- range of days.
 --
--- The report is refused if no accounting register has the name. If one has the name, the report is
--- refused only because the store or memory failed, or the event engine has stopped.
+-- The report is refused if no accounting register (a named energy counter) has the requested name.
+-- If a register has the name, the report is refused only because the store or memory failed, or the
+-- event engine has stopped.
 pub record RangePrints (zone : Zone) (past : History) (register : Option (List ℕ))
     (form : ReportForm) (before after : Failures) (text : List ℕ) (meant : ExitStatus) :
     Type 0 where
@@ -50,8 +55,8 @@ pub record RangePrints (zone : Zone) (past : History) (register : Option (List �
   pub is : IsRangedReport zone past register form reply text
   pub means : meant ≡ meant_by reply
 
--- True if the office (the event engine) printed the report from all accepted events, or a part of
--- the report if a write failed.
+-- True if the office (the event engine) printed an accounting register's report from the records of
+-- all accepted events, or a part of the report if a write failed.
 abbrev pub ReportsRange : {B W : Type 0} → stores.Ghosts B → writers.Ghosts W
     → (register : Option (List ℕ)) → ReportForm → (old new : Office B) → (had holds : W)
     → ExitStatus → Type 0
@@ -60,7 +65,8 @@ ReportsRange b w register form old new had holds status = After b.ledger old new
     (failures_of b.ledger old) (failures_of b.ledger new))
     status (w.contents had) (w.contents holds))
 
--- True if the refusal of the report was printed, or a part of the refusal if the write failed.
+-- True if the refusal of an energy report (the reason for printing no report) was printed, or a
+-- part of the refusal if the write failed.
 pub record PrintsRefusal {W : Type 0} (contents : W → Option (List ℕ)) (why : Refusal)
     (status : ExitStatus) (old new : ReportRows W) : Type 0 where
   pub output : new.output.ghost_name ≡ old.output.ghost_name

@@ -1,4 +1,5 @@
--- The text of an accounting register's report: its days, or a refusal.
+-- The printed text of an accounting register's energy report: the energy
+-- of its days, or the reason why the program refused the report.
 use Rattle.std.specs.Prelude.{◌≡◌, ℕ, List, map, Option, Some, Result, Ok, Err}
 use Rattle.std.specs.Option.{option_and_then}
 use Rattle.std.specs.declared.io.Write as writers
@@ -32,10 +33,11 @@ abbrev pub last_line : (count : ℕ) → Result (Unit {0}) Refusal → List ℕ
 last_line count (Ok done) = end_line count
 last_line count (Err why) = refused_line why
 
--- True if `text` is the text of an accounting register's report. The text has all days of the
--- register, as civil days of the time zone, in order.
+-- True if `text` is the text of an accounting register's report. The text
+-- has all days of the register, as civil days of the time zone, in ascending order.
 --
--- If the report is refused, the text consists of the refusal.
+-- If the event engine refuses an accounting register's report, the printed
+-- text is only the refusal.
 abbrev pub IsReport : Zone → History → (register : Option (List ℕ)) → Result (Unit {0}) Refusal
     → (text : List ℕ) → Type 0
 IsReport zone past register (Ok done) text =
@@ -45,8 +47,9 @@ IsReport zone past register (Err why) text = text ≡ refused_line why
 
 -- The text and the exit status of an accounting register's report.
 --
--- The report is refused if no accounting register has the name. If one has the name, the report is
--- refused only because the store or memory failed, or the event engine has stopped.
+-- The report is refused if no accounting register (a named energy counter) has the requested name.
+-- If a register has the name, the report is refused only because the store or memory failed, or the
+-- event engine has stopped.
 pub record ReportPrints (zone : Zone) (past : History) (register : Option (List ℕ))
     (before after : Failures)
     (text : List ℕ) (meant : ExitStatus) : Type 0 where
@@ -56,8 +59,8 @@ pub record ReportPrints (zone : Zone) (past : History) (register : Option (List 
   pub is : IsReport zone past register reply text
   pub means : meant ≡ meant_by reply
 
--- True if the office (the event engine) printed the report from all accepted events, or a part of
--- the report if a write failed.
+-- True if the office (the event engine) printed an accounting register's report from the records of
+-- all accepted events, or a part of the report if a write failed.
 abbrev pub ReportsDays : {B W : Type 0} → stores.Ghosts B → writers.Ghosts W
     → (register : Option (List ℕ)) → (old new : Office B) → (had holds : W) → ExitStatus → Type 0
 ReportsDays b w register old new had holds status = After b.ledger old new
@@ -65,8 +68,8 @@ ReportsDays b w register old new had holds status = After b.ledger old new
     (failures_of b.ledger old) (failures_of b.ledger new))
     status (w.contents had) (w.contents holds))
 
--- True if the command only queried the event engine, and the engine answered or refused the query.
--- The engine's accepted events are unchanged.
+-- True if a command of `sunreg` only queried the event engine, and the engine answered or refused
+-- the query. The engine's accepted events are unchanged.
 pub record Asks {B : Type 0} (ledger : B → Ledger) (old new : Office B) : Type 0 where
   pub reply : Result (Unit {0}) Refusal
   pub only : OnlyAsks ledger old new reply

@@ -23,7 +23,8 @@ use Rattle.sun_points.specs.Writing.{GotPart}
 -- True if the refusal that ended the polling round early was printed. If the write failed, a part
 -- of the refusal was printed, and the fault is `Output`.
 --
--- For other results of the round, nothing was printed.
+-- If the polling round succeeded, or ended early for another reason than a refusal, nothing was
+-- printed.
 abbrev pub IsRefusalReported : (done result : Result (Unit {0}) RoundFault)
     → (old new : Option (List ℕ)) → Type 0
 IsRefusalReported (Ok x) result old new = (result ≡ Ok x) × (new ≡ old)
@@ -34,8 +35,8 @@ IsRefusalReported (Err Link) result old new = (result ≡ Err Link) × (new ≡ 
 IsRefusalReported (Err Output) result old new = (result ≡ Err Output) × (new ≡ old)
 IsRefusalReported (Err TurnsUsed) result old new = (result ≡ Err TurnsUsed) × (new ≡ old)
 
--- The known states at the start and the end of a polling round, as they were before the final
--- refusal was printed. `printed` is the text that was printed until then.
+-- The states at the start and the end of a polling round, without the final refusal in the printed
+-- text. `printed` is the text that was printed before this refusal.
 abbrev pub without_cause : Passage → (printed : Option (List ℕ)) → Passage
 without_cause through printed =
     passage through.begun
@@ -60,7 +61,7 @@ PollsRoundOver l b c w device from to old new before after had holds result =
     After b.ledger old new (λ past. PollsRound b.ledger device past
     (passage_of l b c w from to old new before after had holds) new result)
 
--- The exit status of the command for the result of its polling round.
+-- The exit status of the command that polls a device once, for the result of its polling round.
 abbrev pub round_status : Result (Unit {0}) RoundFault → ExitStatus
 round_status (Ok x) = status.Fine
 round_status (Err (Refused why)) = status.Refused

@@ -1,5 +1,5 @@
--- The statements of the meters of an accounting register on a range of days. A statement has the
--- numbers against which a bill is checked.
+-- The statements of the meters of an accounting register (a named energy counter) on a range of
+-- days. A statement has the numbers against which a bill is checked.
 use Rattle.std.specs.Prelude.{◌≡◌, ℕ, List, ◌++◌, map, filter, All, is_some, true, Option, Some, Result, Ok, Err}
 use Rattle.std.specs.Option.{option_map, option_and_then}
 use Rattle.std.specs.declared.alloc.Global.{Global}
@@ -43,7 +43,7 @@ use Rattle.office_program.specs.Texts.EndTexts.{ReportsEnd}
 -- The statement of a meter with this name and opening (the record that installs the meter). It has
 -- the meter's entries, its energy in mWh, and the counts of its rejected readings.
 --
--- A meter without an opening has neither entries nor energy.
+-- A meter without an opening (its first entry) has neither entries nor energy.
 abbrev pub reported_of : Zone → DayRange → List Fact → (meter : List ℕ) → Option Opening
     → MeterStatement
 reported_of zone range facts meter opening = record {
@@ -57,8 +57,8 @@ reported_of zone range facts meter opening = record {
 abbrev pub statement_of : Zone → DayRange → List Fact → (meter : List ℕ) → MeterStatement
 statement_of zone range facts meter = reported_of zone range facts meter (opening_of facts meter)
 
--- The statements (reports to check a bill) of the listed meters that were in place on a day of the
--- range, in the same order.
+-- The statements (reports to check a bill) of those listed meters that were in place on a day of
+-- the range. The statements have the order of the list.
 abbrev pub statements_of : Zone → DayRange → List Fact → List Installation → List MeterStatement
 statements_of zone range facts rows =
     map (λ row. statement_of zone range facts row.opening.meter)
@@ -97,15 +97,15 @@ AnswersOf ledger old new result found = After ledger old new (λ past.
     IsFound (Unit {0}) (found (facts_of past)) (failures_of ledger old) (failures_of ledger new)
     result)
 
--- The next definitions give the statements of all meters of an accounting register that were in
--- place in a range of days.
+-- The next definitions give the statements of all meters of an accounting register (a named energy
+-- counter) that were in place in a range of days.
 
--- True if the store's records have the installation of each meter in `rows`.
+-- True if the store's records have the opening (the first entry) of each meter in the list `rows`.
 abbrev pub AreRecorded : List Fact → List Installation → Type 0
 AreRecorded facts rows = All (λ row. is_some (opening_of facts row.opening.meter) ≡ true) rows
 
--- True if the statements (reports to check a bill) of the meters in `rows` were appended to a list.
--- Also true if the event engine refused a query because of a failure.
+-- True if the statements (reports to check a bill) of the meters in the list `rows` were appended
+-- to a list. Also true if the event engine refused a query because of a failure.
 abbrev pub IsStated : Zone → DayRange → List Fact → List Installation
     → (before after : List MeterStatement) → (had has : Failures) → Result (Unit {0}) Refusal
     → Type 0
@@ -113,8 +113,8 @@ IsStated zone range facts rows before after had has (Ok done) =
     (after ≡ before ++ statements_of zone range facts rows) × (has ≡ had)
 IsStated zone range facts rows before after had has (Err why) = IsOutside (Unit {0}) had has why
 
--- The contract of appending the statements (reports to check a bill) of the meters in `rows`.
--- `IsStated` states the result, whatever events the event engine accepted before.
+-- The contract of appending the statements (reports to check a bill) of the meters in the list
+-- `rows`. `IsStated` states the result, whatever events the event engine accepted before.
 abbrev pub States : {B : Type 0} → (B → Ledger) → Zone → DayRange → List Installation
     → (old new : Office B) → (before after : List MeterStatement) → Result (Unit {0}) Refusal
     → Type 0
@@ -122,8 +122,8 @@ States ledger zone range rows old new before after result = After ledger old new
     AreRecorded (facts_of past) rows → IsStated zone range (facts_of past) rows before after
     (failures_of ledger old) (failures_of ledger new) result)
 
--- The statements (reports to check a bill) of the accounting register's meters that were in place
--- in the range of days. `None` if no accounting register has the name.
+-- The statements (reports to check a bill) of the accounting register's
+-- meters that were in place in the range of days. `None` if no accounting register has the name.
 abbrev pub statements_in : Zone → DayRange → List Fact → (register : Option (List ℕ))
     → Option (List MeterStatement)
 statements_in zone range facts register =
@@ -142,14 +142,15 @@ abbrev pub statement_or_not : StatementForm → Result (List MeterStatement) Ref
 statement_or_not form (Ok rows) = statement_text form rows
 statement_or_not form (Err why) = refused_line why
 
--- The exit status of the command that prints statements. If the statements are refused, the status
--- is `Refused`, otherwise `Fine`.
+-- The exit status of the command that prints the statements (billing reports) of meters. If the
+-- event engine refuses the query for the statements, the status is `Refused`, otherwise `Fine`.
 abbrev pub meant_by : Result (List MeterStatement) Refusal → ExitStatus
 meant_by (Ok rows) = Fine
 meant_by (Err why) = Refused
 
--- The text and the exit status of the meters' statements (reports to check a bill). The statements
--- are refused if no accounting register has the name, or because of a failure.
+-- The text and the exit status of the statements (reports to check a bill) of an accounting
+-- register's meters. The statements are refused if no accounting register has the name `register`,
+-- or because of a failure.
 pub record StatementPrints (zone : Zone) (past : History) (register : Option (List ℕ))
     (form : StatementForm) (before after : Failures) (text : List ℕ) (meant : ExitStatus)
     : Type 0 where
@@ -159,8 +160,8 @@ pub record StatementPrints (zone : Zone) (past : History) (register : Option (Li
   pub is : text ≡ statement_or_not form reply
   pub means : meant ≡ meant_by reply
 
--- True if the event engine printed the statements from all accepted events, or a part of the
--- statements if a write failed.
+-- True if the event engine printed the meters' statements (reports to check a bill) from all
+-- accepted events, or a part of the statements if a write failed.
 abbrev pub PrintsStatement : {B W : Type 0} → stores.Ghosts B → writers.Ghosts W → Zone
     → (register : Option (List ℕ)) → StatementForm → (old new : Office B) → (had holds : W)
     → ExitStatus → Type 0

@@ -14,7 +14,8 @@ pub const MOST_WAITING: usize = 16;
 /// The numbers of the pending polls of a polling round.
 pub type Polls = ArrayVec<u64, 16>;
 
-// Returns true if the notification reports the outcome of the poll with number `poll`.
+// Returns true if the notification (of a poll's outcome or of a reading) reports the outcome of the
+// poll with number `poll`.
 fn ends(note: &Note, poll: u64) -> bool
     ensures { result ≡ specs.ends poll note.now }
 {
@@ -52,7 +53,8 @@ pub(crate) fn waiting_after(polls: &Polls, notes: &[Note]) -> Polls
     left
 }
 
-/// Adds `count` pending polls with consecutive numbers, beginning with `first`.
+/// Adds `count` polls with consecutive numbers, beginning with `first`, to the polling round's list
+/// of pending polls.
 pub(crate) fn add(polls: &mut Polls, first: u64, count: u64)
     requires { array_vec_len polls.old + count ≤ 16 }
     ensures { polls.new.items ≡ polls.old.items ++ specs.numbers first count }
@@ -65,7 +67,7 @@ pub(crate) fn add(polls: &mut Polls, first: u64, count: u64)
 /// The counts of a polling round's ended polls by outcome: answered, silent (timed out), or failed
 /// otherwise.
 ///
-/// Each count saturates at 2^64 - 1.
+/// Each count of ended polls saturates at 2^64 - 1.
 #[derive(Clone, Copy, PartialEq, Eq)]
 pub struct Sum {
     pub answered: u64,
@@ -116,7 +118,7 @@ impl Sum {
         }
     }
 
-    /// Counts the outcomes of pending polls that several notifications report.
+    /// Counts, by outcome, those polls in `polls` whose outcomes the given notifications report.
     pub(crate) fn note_all(&mut self, polls: &Polls, notes: &[Note])
         ensures { self.new ≡ sums.noted_all polls.now.items notes.now self.old }
     {

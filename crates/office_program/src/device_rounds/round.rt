@@ -1,5 +1,5 @@
-//! The state of the polling round of one device: its stage, its pending polls, and the counts of
-//! its ended polls.
+//! The state of the polling round of one device: its stage (such as waiting for responses), its
+//! pending polls, and the counts of its ended polls.
 use crate::device_rounds::polls::{MOST_WAITING, Polls, Sum, add, waiting_after};
 use crate::device_rounds::stage::Stage;
 use office_events::{Answer, Command, Event, Name, Note, Refusal, StartRound};
@@ -11,14 +11,15 @@ use poll_core::Closing;
 pub struct Round {
     pub device: Option<Name>,
     pub stage: Stage,
-    /// The numbers of the round's pending polls.
+    /// The numbers of the polling round's pending polls.
     pub polls: Polls,
-    /// The number of Modbus reads of the plan that were started.
+    /// The number of Modbus reads that the polling round has started. The device's plan lists the
+    /// Modbus reads of a round.
     pub started: u64,
-    /// The number of Modbus reads in the plan.
+    /// The number of Modbus reads in the device's plan, the list of the reads of one polling round.
     pub planned: u64,
-    /// The counts of the round's ended polls by outcome. These counts are kept until the device
-    /// connects again.
+    /// The counts of the polling round's ended polls by outcome. These counts are kept until the
+    /// device connects again.
     pub sum: Sum,
 }
 
@@ -99,8 +100,8 @@ impl Round {
         }
     }
 
-    /// Changes the stage of the polling round according to the event engine's answer to an event of
-    /// the round.
+    /// Changes the stage of the polling round (such as `Starting` or `Waiting`) according to the
+    /// event engine's answer to an event of the round.
     pub fn answer(&mut self, answer: Result<Answer, Refusal>)
         ensures { self.new ≡ rounds.answered answer self.old }
     {
@@ -147,7 +148,8 @@ impl Round {
     ghost use Rattle.arrayvec.specs.ArrayVec.{array_vec_len};
     ghost use Rattle.office_program.specs.DeviceRounds.Rounds.{begun};
 
-    // Adds `count` pending polls, beginning with number `first`, for a plan of `of` Modbus reads.
+    // Adds `count` pending polls to the polling round, with consecutive numbers from `first`. The
+    // device's plan has `of` Modbus reads.
     fn begin(&mut self, first: u64, count: u64, of: u64)
         requires { array_vec_len self.old.polls + count ≤ 16 }
         ensures { self.new ≡ begun first count of self.old }

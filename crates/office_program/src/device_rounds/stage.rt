@@ -4,16 +4,17 @@ use poll_core::Closing;
 /// The stage of a polling round, which determines the event that the round generates next.
 #[derive(Clone, Copy, PartialEq, Eq)]
 pub enum Stage {
-    /// The device is not connected. The round generates no event.
+    /// The device is not connected. Its polling round generates no event.
     Off,
-    /// The device is connected. The round generates the event `Connected` next.
+    /// The device is connected. Its polling round generates the event `Connected` next.
     Joining,
-    /// Modbus reads of the plan remain. The round generates the command that starts these reads.
+    /// Modbus reads of the device's plan remain. The polling round generates the command that
+    /// starts these reads.
     Starting,
-    /// The round waits for responses of the device, and generates no event.
+    /// The polling round waits for responses of the device, and generates no event.
     Waiting,
-    /// The device is disconnected, or the round has ended. The round generates the event `Gone`
-    /// next.
+    /// The device is disconnected, or its polling round has ended. The round generates the event
+    /// `Gone` next.
     Leaving(Closing),
 }
 

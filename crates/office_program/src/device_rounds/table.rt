@@ -1,12 +1,12 @@
-//! The polling rounds of all devices, in the order of the devices' slots.
+//! The polling rounds of all devices, in the order of the devices' slots (indices).
 ghost use Rattle.std.specs.Prelude.{◌≡◌, map, position};
 ghost use Rattle.office_program.specs.DeviceRounds.Rounds.{heard, has_request};
 
 use crate::device_rounds::round::Round;
 use office_events::Note;
 
-/// Returns the slot of the first polling round that generates an event, or `None` if no round
-/// generates an event.
+/// Returns the slot (the index) of the first polling round that generates an event, or `None` if no
+/// round generates an event.
 pub fn find_requesting(rounds: &[Round]) -> Option<usize>
     ensures { result ≡ position has_request rounds.now }
 {

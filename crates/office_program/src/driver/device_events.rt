@@ -1,5 +1,5 @@
 //! The events of the devices that an office (the event engine) polls, as input of the function
-//! `turn`.
+//! `turn` (which processes one device event).
 use office_events::Piece;
 use poll_core::Closing;
 
@@ -7,11 +7,12 @@ use poll_core::Closing;
 /// has no effect.
 #[derive(Drop)]
 pub enum DeviceEvent {
-    /// The device in the slot has connected.
+    /// The device in the slot (table index) has connected.
     Connected(usize),
-    /// Bytes arrived from the device in the slot.
+    /// Bytes arrived from the device in the slot (table index).
     Received(usize, Piece),
-    /// The connection to the device in the slot has ended, or the program closes this connection.
+    /// The connection to the device in the slot (table index) has ended, or the program closes this
+    /// connection.
     Closed(usize, Closing),
     /// A timer event: a second has passed.
     Tick,

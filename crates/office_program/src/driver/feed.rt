@@ -11,8 +11,8 @@ use office_books::Books;
 use office_core::Office;
 use office_events::{Answer, Event, Observer, Refusal};
 
-// Passes the event engine's answer to the polling round in slot `place`, which generated the event
-// or waited for its bytes. If `place` is `None`, drops the answer.
+// Passes the event engine's answer to the polling round with the index `place`, which generated the
+// event or waited for its bytes. If `place` is `None`, drops the answer.
 fn answer_for(rounds: &mut [Round], place: Option<usize>, answer: Result<Answer, Refusal>)
     ensures { rounds.new ≡ answered_for place answer rounds.old }
 {
@@ -26,8 +26,8 @@ fn answer_for(rounds: &mut [Round], place: Option<usize>, answer: Result<Answer,
 /// Feeds one event to the event engine. `place` is the slot of the polling round that generated the
 /// event or waited for its bytes, or `None` for a timer event.
 ///
-/// Passes the answer to this polling round and the notifications to all rounds. Shows the event
-/// with its answer to the observer.
+/// Passes the engine's answer to the polling round in slot `place`, and the engine's notifications
+/// to all rounds. Shows the event with its answer to the observer.
 pub(crate) fn feed_one<B: Books, V: Observer>(
     rounds: &mut [Round],
     place: Option<usize>,
@@ -48,8 +48,8 @@ pub(crate) fn feed_one<B: Books, V: Observer>(
     observer.observe(place, at, event, answer, notes, frames);
 }
 
-/// Returns the slot of the first polling round that generates an event, and this event. Returns
-/// `None` if no round generates an event.
+/// Returns the slot (the index) of the first polling round that generates an event, and this event.
+/// Returns `None` if no round generates an event.
 pub(crate) fn first_request(rounds: &[Round]) -> Option<(usize, Event)>
     ensures { turns.as_wished result ≡ turns.first_request rounds.now }
 {

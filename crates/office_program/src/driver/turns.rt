@@ -14,8 +14,9 @@ use office_core::Office;
 use office_events::{Event, Name, Observer, Piece};
 use poll_core::Closing;
 
-/// The largest number of events of polling rounds that one call of `turn` feeds to the event engine
-/// after the device event. If the rounds generate more events, the next call of `turn` feeds them.
+/// The largest number of events of polling rounds that one call of `turn` (which processes one
+/// device event) feeds to the event engine after the device event. If the rounds generate more
+/// events, the next call of `turn` feeds them.
 pub const MAX_REQUESTS: u32 = 256;
 
 // Feeds the events that the polling rounds generate to the event engine, until no round generates
@@ -55,7 +56,7 @@ fn leave(rounds: &mut [Round], place: usize, closing: Closing)
 }
 
 // Feeds the event `event` to the event engine, and then the events that the polling rounds
-// generate. `place` is the slot of the polling round that gets the answer to `event`.
+// generate. `place` is the index of the device whose polling round gets the answer to `event`.
 fn begin<B: Books, V: Observer>(
     rounds: &mut [Round],
     place: Option<usize>,
@@ -72,7 +73,8 @@ fn begin<B: Books, V: Observer>(
     settle(rounds, office, at, observer);
 }
 
-// Feeds only the events that the polling rounds generate to the event engine, and no device event.
+// Feeds the events that the polling rounds generate to the event engine, without a device event
+// before them.
 fn feed_requests<B: Books, V: Observer>(
     rounds: &mut [Round],
     office: &mut Office<B>,
@@ -86,7 +88,7 @@ fn feed_requests<B: Books, V: Observer>(
     settle(rounds, office, at, observer);
 }
 
-// Returns the name of the device in slot `place`, if the device's polling round is waiting for
+// Returns the name of the device with the index `place`, if its polling round is waiting for
 // responses. Otherwise returns `None`.
 fn waiting_at(rounds: &[Round], place: usize) -> Option<Option<Name>>
     ensures { (piece : List ℕ) → came_from place result piece
@@ -101,8 +103,8 @@ fn waiting_at(rounds: &[Round], place: usize) -> Option<Option<Name>>
     None
 }
 
-// Feeds bytes of a device to the event engine, if the device's polling round is waiting for
-// responses. Drops the bytes otherwise, since no poll expects them.
+// Feeds bytes received from a device to the event engine, if the device's polling round is waiting
+// for responses. Otherwise drops the bytes, since no poll expects them.
 fn take_bytes<B: Books, V: Observer>(
     rounds: &mut [Round],
     place: usize,
@@ -127,10 +129,11 @@ fn take_bytes<B: Books, V: Observer>(
 /// Processes a device event, and then feeds the events that the polling rounds generate to the
 /// event engine.
 ///
-/// Awaited bytes and a timer event are fed to the engine. A connection or its end changes the state
-/// of the device's polling round. Always the event of the first slot whose round generates one is
-/// fed next. The call ends when no round generates an event, or after 256 events of rounds. All
-/// events have the timestamp `at`, in seconds since 1970-01-01 UTC.
+/// Bytes that a polling round waits for, and timer events, are fed to the event engine. A
+/// connection or its end only changes the state of the device's polling round. Then the event of
+/// the first device whose round generates an event is fed, again and again. The call ends when no
+/// round generates an event, or after 256 events of rounds. All events have the timestamp `at`, in
+/// seconds since 1970-01-01 UTC.
 pub fn turn<B: Books, V: Observer>(
     rounds: &mut [Round],
     device_event: DeviceEvent,

@@ -79,7 +79,8 @@ fn print_doubt<W: Write>(mwh: u128, output: &mut W) -> io::Result<()>
 }
 
 // Prints that a manual entry needs a confirmation: it would record more energy than the meter's
-// power limit allows. Returns the progress of the input after the line with this entry.
+// power limit allows. Returns the progress (latest timestamp, any refusal) after the input line
+// with this entry.
 fn print_doubted<W: Write>(mwh: u128, at: u64, output: &mut W) -> io::Result<Progress>
     ensures { ReportsWhyNot (course.doubted_line mwh) at
         (W.contents output.old) (W.contents output.new) result }
@@ -90,8 +91,9 @@ fn print_doubted<W: Write>(mwh: u128, at: u64, output: &mut W) -> io::Result<Pro
     }
 }
 
-// Prints the refusal of a query that an input line needs, for example the query whether its manual
-// entry needs a confirmation. Returns the progress of the input after the line.
+// Prints the refusal of a query that an input line needs, for example the query whether the line's
+// manual entry needs a confirmation. Returns the progress (latest timestamp, any refusal) after
+// this line.
 fn print_undecided<W: Write>(why: Refusal, at: u64, output: &mut W) -> io::Result<Progress>
     ensures { ReportsWhyNot (refused_line why) at
         (W.contents output.old) (W.contents output.new) result }
@@ -143,8 +145,9 @@ fn ask<B: Books, W: Write>(
     }
 }
 
-// Reads the meter's counter for a line with `@read`, a placeholder for the reading. Then feeds the
-// line's request to the event engine as `ask` does.
+// Reads the meter's counter for an input line with `@read`, a placeholder for the reading. Then
+// feeds the line's request to the event engine and prints the answer, as for a line without
+// `@read`.
 fn read_and_ask<B: Books, F: NamedFiles, W: Write>(
     office: &mut Office<B>,
     progress: Progress,
@@ -175,8 +178,8 @@ pub(crate) fn print_faults<W: Write>(rows: &[FaultyRow], output: &mut W) -> io::
     write_refusal(Refusal::Limit, output)
 }
 
-// Prints the faulty rows of a point list. Returns the progress of the input after the line with
-// this list.
+// Prints the faulty rows of a point list. Returns the progress (latest timestamp, any refusal)
+// after the input line with this list.
 fn print_list_faults<W: Write>(
     rows: &[FaultyRow],
     progress: Progress,
@@ -221,8 +224,8 @@ fn enter_entry<B: Books, C: Clock, F: NamedFiles, W: Write>(
     }
 }
 
-// If an input line is bad, prints a message. If memory ran out, prints nothing. Returns the
-// command's exit status.
+// Prints a message if the input line is bad, and nothing if memory ran out. Returns the exit status
+// of the command that enters the input.
 fn print_one_fault<W: Write>(fault: LineFault, number: u64, output: &mut W) -> ExitStatus
     ensures { ReportsFault fault number result (W.contents output.old) (W.contents output.new) }
 {
@@ -235,8 +238,8 @@ fn print_one_fault<W: Write>(fault: LineFault, number: u64, output: &mut W) -> E
     }
 }
 
-/// Processes one input line. Feeds its request to the event engine and prints the answer, or prints
-/// why the line makes no request.
+/// Processes one input line. Feeds the line's request to the event engine and prints the answer, or
+/// prints why the line makes no request.
 pub(crate) fn enter_line<B: Books, C: Clock, F: NamedFiles, W: Write>(
     alloc: Global,
     office: &mut Office<B>,

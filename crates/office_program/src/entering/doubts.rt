@@ -60,8 +60,8 @@ fn doubted_up_to(row: &Installation, moment: u64, up_to: u128) -> Option<u128>
     }
 }
 
-// Returns the energy, in mWh, that the command's entry would record for the meter `row`, if the
-// entry needs a confirmation. Otherwise returns `None`.
+// Returns the energy, in mWh, that the command's manual entry would record for the meter `row`, if
+// the entry needs a confirmation. Otherwise returns `None`.
 fn doubted_at(at: u64, command: &Command, row: &Installation) -> Option<u128>
     requires { IsSound row.now }
     ensures { result ≡ spec.doubted_at at command.now row.now }
@@ -119,8 +119,8 @@ fn corrected_at(command: &Command) -> Option<Name>
     }
 }
 
-// Returns the energy, in mWh, that the command's entry would record for the accounting register's
-// open meter, if the entry needs a confirmation. Otherwise returns `None`.
+// Returns the energy, in mWh, that the command's manual entry would record for the accounting
+// register's open meter, if the entry needs a confirmation. Otherwise returns `None`.
 fn doubted_in<B: Books>(
     office: &mut Office<B>,
     at: u64,
@@ -142,9 +142,9 @@ fn doubted_in<B: Books>(
     }
 }
 
-/// Returns the energy, in mWh, that a request would record, if its manual entry needs a
-/// confirmation: the energy is above what the meter's ceiling (its greatest power) allows.
-/// Otherwise returns `None`. The event engine is only queried.
+/// Returns the energy, in mWh, that a request's manual entry would record, if the entry needs a
+/// confirmation. It needs one if the energy is above what the meter's ceiling (its greatest power)
+/// allows. Otherwise returns `None`. The event engine is only queried.
 pub(crate) fn doubt_of<B: Books>(
     office: &mut Office<B>,
     at: u64,

@@ -1,4 +1,5 @@
-//! Enters the lines of an input into an office (the event engine) that is opened over a store.
+//! Enters the lines of an input (a text of request lines) into an office (the event engine) that is
+//! opened over a store.
 ghost use Rattle.office_program.specs.Passing as rounds;
 ghost use Rattle.office_program.specs.Texts.Passing.{Lasts};
 ghost use Rattle.office_program.specs.Entering.Entered.{EntersOver, EntersTextOf};
@@ -17,8 +18,8 @@ use office_events::Name;
 use std::alloc::Global;
 use std::io::Write;
 
-// Processes the lines of an input in order, until the first bad line. The timestamp of a line is at
-// least `first`.
+// Processes the lines of an input (a text of request lines) in order, until the first bad line. No
+// line gets a timestamp before `first`.
 fn enter_text<B: Books, C: Clock, F: NamedFiles, W: Write>(
     alloc: Global,
     office: &mut Office<B>,
@@ -45,7 +46,8 @@ fn enter_text<B: Books, C: Clock, F: NamedFiles, W: Write>(
     progress.status()
 }
 
-/// Opens an event engine over a store at the clock's time, and enters the lines of an input.
+/// Opens an event engine over a store at the clock's time, and enters the lines of an input, each
+/// of which is a request.
 ///
 /// Each input line is a request. Its idempotency key is the caller and the line's first word, a
 /// number. So a line that was executed earlier is answered `ok`, and is not executed again. The
@@ -57,12 +59,12 @@ fn enter_text<B: Books, C: Clock, F: NamedFiles, W: Write>(
 /// remaining lines are not executed.
 ///
 /// A manual entry above the meter's ceiling (its greatest power) is not executed, unless its line
-/// ends with ` !`. Instead, the command prints `doubted` and the energy in mWh that the entry would
-/// record.
+/// ends with ` !` (a confirmation). Instead, the command prints `doubted` and the energy in mWh
+/// that the entry would record.
 ///
-/// If opening the engine is refused, the command prints only `refused N`. Each entry is stored with
-/// the name of its caller; a name that breaks the rules for names makes each line a `bad line`.
-/// Returns the store.
+/// If opening the event engine is refused, the command `enter` prints only `refused N`. Each entry
+/// is stored with the name of its caller; a name that breaks the rules for names makes each input
+/// line a `bad line`. Returns the store.
 pub fn enter_books<B: Books, C: Clock, F: NamedFiles, W: Write>(
     alloc: Global,
     books: B,

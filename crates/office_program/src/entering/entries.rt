@@ -20,11 +20,12 @@ use std::alloc::{AllocError, Global};
 /// faulty rows of a point list.
 #[derive(Drop)]
 pub(crate) enum Entry {
-    /// The line makes this request.
+    /// The input line is valid and makes this request.
     Ask(Asked),
-    /// The line makes this request after the meter's counter has been read.
+    /// The input line makes the request that results from `ReadRequest` after the meter's counter
+    /// has been read.
     Read(ReadRequest),
-    /// The point list of the line has these faulty rows.
+    /// The point list of the input line has these faulty rows.
     Faulty(FaultyRows),
 }
 
@@ -76,8 +77,8 @@ fn file_request(alloc: Global, line: &[u8], text: &[u8]) -> Result<Piece, AllocE
     Ok(Piece::new(bytes))
 }
 
-// Returns the parsed form of a script's line that contains the request `want`. Returns `Bad` if the
-// line contains no request.
+// Returns the parsed form of a line of a script (a text of commands) that contains the request
+// `want`. Returns the error `Bad` if the line contains no request.
 fn wanted_entry(
     alloc: Global,
     caller: Option<Name>,
@@ -108,7 +109,8 @@ fn wanted_entry(
     }
 }
 
-// Parses a script's line, which may end with the mark ` !` (a confirmation of an entry by hand).
+// Parses a line of a script (a text of commands), which may end with the mark ` !` (a confirmation
+// of an entry by hand).
 fn script_entry(alloc: Global, caller: Option<Name>, line: &[u8]) -> Result<Entry, LineFault>
     ensures { ReadsScript caller line.now result }
 {
@@ -118,7 +120,7 @@ fn script_entry(alloc: Global, caller: Option<Name>, line: &[u8]) -> Result<Entr
     }
 }
 
-// Returns the parsed form of an input line that names a file. `text` are the bytes that were read
+// Returns the parsed form of an input line that names a file. `text` has the bytes that were read
 // from the file.
 fn held_entry(
     alloc: Global,
@@ -136,8 +138,8 @@ fn held_entry(
     }
 }
 
-// Reads the file that the input line names, and returns the parsed form of the line. Returns `Bad`
-// if the file does not exist.
+// Reads the file that the input line names, and returns the parsed form of the line. Returns the
+// error `Bad` if the file does not exist.
 fn file_entry<F: NamedFiles>(
     alloc: Global,
     caller: Option<Name>,

@@ -11,7 +11,8 @@ use script_text::{Words, end_of_words, next_name, next_number};
 #[derive(Clone, Copy)]
 pub(crate) struct FileLine<'a> {
     pub(crate) number: u64,
-    /// The device's name, or `None` if the word in the line is no valid name.
+    /// The device's name that an input line has, or `None` if the line's word for it is no valid
+    /// name.
     pub(crate) device: Option<Name>,
     pub(crate) name: &'a [u8],
 }

@@ -1,10 +1,10 @@
-//! A trait for reading the files that an input names, and the meter counters that an input reads
-//! with `@read`.
+//! A trait for reading the files that an input (a text of request lines) names, and the meter
+//! counters that the input reads with `@read`.
 
 use office_events::{Device, Register};
 use std::alloc::{AllocError, Global};
 
-/// The largest size of a file that an input names, in bytes.
+/// The largest size, in bytes, of a file that an input (a text of request lines) names.
 pub const MOST_FILE: usize = 65_536;
 
 /// The reading of a meter's counter: the count, and the scale factor of its unit as a power of ten.
@@ -14,8 +14,8 @@ pub struct Shown {
     pub sf: i16,
 }
 
-/// A reader of the files that an input names, and of the counters at whose present readings the
-/// input installs meters.
+/// A reader of the files that an input (a text of request lines) names, and of the counters at
+/// whose present readings the input installs meters.
 pub trait NamedFiles {
     ghost use Rattle.std.specs.Prelude.{◌≤◌, ℕ, List, Option, IfOk, IfSome, length, option_map};
     ghost use Rattle.office_events.specs.declared.facts.Device.{Device};
@@ -32,8 +32,8 @@ pub trait NamedFiles {
 
     /// Reads the file `name` of at most `MOST_FILE` bytes.
     ///
-    /// Returns `None` if the file does not exist, can't be read or is longer. The implementation
-    /// may report why.
+    /// Returns `None` if the file `name` does not exist, can't be read or is longer than
+    /// `MOST_FILE` bytes. The implementation may report why.
     fn read(&self, alloc: Global, name: &[u8]) -> Result<Option<Vec<u8>>, AllocError>
         ensures reported { IfOk result
             (λ found. reports self.now name.now (option_map (λ v. v.items) found)) }
@@ -41,7 +41,8 @@ pub trait NamedFiles {
 
     /// Reads the counter of an accounting register from its device.
     ///
-    /// Returns `None` if the counter can't be read. The implementation may report why.
+    /// Returns `None` if the counter of the accounting register can't be read from the device. The
+    /// implementation may report why.
     fn shown(&self, device: &Device, register: &Register) -> Option<Shown>
         ensures { shows self.now device.now register.now result };
 }

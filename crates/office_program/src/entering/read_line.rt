@@ -11,7 +11,7 @@ use script_text::{Words, end_of_words, next_name, next_number, next_range};
 /// An input line with `@read` in place of a counter's reading. A name is `None` if the word in the
 /// line is no valid name.
 ///
-/// The line has one of two forms:
+/// An input line with `@read` (the placeholder for a reading) has one of two forms:
 ///
 /// - `NUMBER install REGISTER METER @read CEILING [RANGE]`
 /// - `NUMBER exchange REGISTER LAST ROLLS METER @read CEILING [RANGE]`
@@ -89,7 +89,7 @@ fn exchange(number: u64, words: &mut Words<'_>) -> Option<ReadLine>
 }
 
 // Parses the words after the number and the verb of an input line. Returns `None` if the line is
-// neither an installation nor an exchange with `@read`.
+// neither an installation nor an exchange with `@read` (the placeholder for a reading).
 fn line_of(number: u64, verb: &[u8], words: &mut Words<'_>) -> Option<ReadLine>
     ensures { result ≡ spec.line_said number verb.now words.old }
 {
@@ -102,7 +102,8 @@ fn line_of(number: u64, verb: &[u8], words: &mut Words<'_>) -> Option<ReadLine>
     }
 }
 
-// Parses an input line with `@read`. The caller has removed the mark ` !` (a confirmation).
+// Parses an input line with `@read` (the placeholder for a reading). The caller has removed the
+// mark ` !` (a confirmation).
 fn read_line(line: &[u8]) -> Option<ReadLine>
     ensures { result ≡ spec.read_said (words_of line.now) }
 {
@@ -112,8 +113,8 @@ fn read_line(line: &[u8]) -> Option<ReadLine>
     line_of(number, verb, &mut words)
 }
 
-/// Parses an input line with `@read`. A line that makes an entry by hand may end with the mark ` !`
-/// (a confirmation).
+/// Parses an input line with `@read` (the placeholder for a reading). A line that makes an entry by
+/// hand may end with the mark ` !` (a confirmation).
 pub(crate) fn read_in(line: &[u8]) -> Option<ReadLine>
     ensures { MatchOption result (spec.IsNoRead line.now) (λ read. spec.IsRead line.now read) }
 {
@@ -130,8 +131,8 @@ pub(crate) fn read_in(line: &[u8]) -> Option<ReadLine>
 }
 
 impl ReadLine {
-    // Returns false if the line has the mark ` !` (`marked`) and installs a meter. The mark
-    // confirms an entry by hand, and an installation makes none. Returns true otherwise.
+    // Returns false if the line installs a meter and has the mark ` !`, as `marked` says. The mark
+    // confirms an entry by hand, and an installation makes no such entry. Otherwise returns true.
     fn may_end(&self, marked: bool) -> bool
         ensures { result ≡ spec.may_end marked self.now }
     {
@@ -141,7 +142,8 @@ impl ReadLine {
         }
     }
 
-    /// Returns the number of the line's request, a part of its idempotency key.
+    /// Returns the number of the input line's request. The number is a part of the request's
+    /// idempotency key.
     pub(crate) fn number(&self) -> u64
         ensures { result ≡ spec.number_of self.now }
     {
@@ -162,8 +164,8 @@ impl ReadLine {
         }
     }
 
-    /// Returns the command of the line with `@read`, where the counter's reading `raw` and `sf`
-    /// replaces `@read`.
+    /// Returns the command of the line with `@read`, with the counter's reading in place of
+    /// `@read`: the count `raw` and the scale factor `sf`.
     pub(crate) fn command(&self, raw: u64, sf: i64) -> Command
         ensures { result ≡ spec.command_at self.now raw sf }
     {
@@ -214,7 +216,8 @@ pub(crate) struct ReadRequest {
 }
 
 impl ReadRequest {
-    /// Returns the request of the line with `@read`, with the counter's reading in it.
+    /// Returns the request of an input line with `@read` (a placeholder for the counter's reading),
+    /// where the reading `shown` replaces `@read`.
     pub(crate) fn asked(self, shown: Shown) -> Asked
         ensures { result ≡ spec.asked_at self shown.raw shown.sf }
     {

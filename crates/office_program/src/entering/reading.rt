@@ -9,8 +9,7 @@ use office_books::Books;
 use office_core::Office;
 use office_events::{Name, Refusal, Register};
 
-/// The placeholder for a reading when the counter is not read, because the store already has the
-/// request.
+/// A dummy reading for a counter that is not read, because the store already has the request.
 pub(crate) const NOT_READ: Shown = Shown { raw: 0, sf: 0 };
 
 // Returns the reading of the accounting register's counter from the register's device. Returns
@@ -34,7 +33,7 @@ fn shown_at<B: Books, F: NamedFiles>(
 }
 
 // Returns the reading of the counter of the accounting register with this name. Returns `None` if
-// the counter can't be read.
+// the counter can't be read from the register's device.
 fn shown_there<B: Books, F: NamedFiles>(
     office: &mut Office<B>,
     name: &Option<Name>,
@@ -53,10 +52,11 @@ fn shown_there<B: Books, F: NamedFiles>(
     }
 }
 
-/// Returns the counter's reading for the request of an input line with `@read`. Returns `None` if
-/// the counter can't be read.
+/// Returns the counter's reading for the request of an input line with `@read`, a placeholder for
+/// this reading. Returns `None` if the counter can't be read from the device.
 ///
-/// If the store already has the request, the line is a retry and the counter is not read.
+/// If the store already has the request of the input line, the line is a retry and the counter is
+/// not read.
 pub(crate) fn shown_for<B: Books, F: NamedFiles>(
     office: &mut Office<B>,
     read: &ReadRequest,

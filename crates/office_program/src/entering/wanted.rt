@@ -1,5 +1,5 @@
-//! Finds the request in a line of a script. In an input of requests, the first word of a line is
-//! the request's number instead of a timestamp.
+//! Finds the request in a line of a script (a text of commands). In an input of requests, the first
+//! word of a line is the request's number instead of a timestamp.
 ghost use Rattle.std.specs.Prelude.{◌≡◌};
 ghost use Rattle.office_program.specs.Entering.Lines as lines;
 
@@ -7,17 +7,18 @@ use crate::entering::marks::is_by_hand;
 use office_events::{Command, Event};
 use script_text::{GivenList, ScriptLine};
 
-/// The request in a line of a script, with its number.
+/// The request in a line of a script (a text of commands), with the request's number, by which a
+/// retry is found.
 #[derive(Drop)]
 pub(crate) enum Wanted {
     Command(u64, Command),
     List(u64, GivenList),
-    /// The line of the script contains no request.
+    /// The line of the script (a text of commands) contains no request.
     Nothing,
 }
 
-// Returns true if the command is allowed in an input line. Commands that start polls are not
-// allowed in an input.
+// Returns true if the command is allowed in an input (a text of request lines). Commands that start
+// polls are not allowed.
 fn is_request(command: &Command) -> bool
     ensures { result ≡ lines.is_request command.now }
 {
@@ -80,8 +81,8 @@ fn wanted_list(marked: bool, number: u64, list: GivenList) -> Wanted
     }
 }
 
-/// Returns the request in a line of a script. A line with the mark ` !` can contain only an entry
-/// by hand.
+/// Returns the request in a line of a script (a text of commands). A line with the mark ` !` (a
+/// confirmation) can contain only an entry by hand.
 pub(crate) fn wanted_in(marked: bool, said: ScriptLine) -> Wanted
     ensures { result ≡ lines.wanted_in marked said }
 {

@@ -15,9 +15,9 @@ use std::io::Write;
 
 /// Opens an event engine over a store for queries.
 ///
-/// Opening uses the clock's time, or the latest timestamp in the store if that timestamp is later.
-/// So a clock that was set back prevents no query. If opening the engine is refused, the function
-/// prints `refused N`.
+/// The event engine is opened at the clock's time, or at the latest timestamp in the store if that
+/// timestamp is later. So a clock that was set back prevents no query. If opening the engine is
+/// refused, the function prints `refused N`.
 pub fn open_office_to_ask<B: Books, C: Clock, W: Write>(
     alloc: Global,
     books: B,

@@ -1,4 +1,4 @@
-//! Prints the report of an accounting register on a range of days.
+//! Prints the report of an accounting register (a named energy counter) on a range of days.
 ghost use Rattle.office_program.specs.Texts.RangedReports.{PrintsRest, ReportsRange};
 ghost use Rattle.office_program.specs.Texts.Reports.{Asks};
 
@@ -27,11 +27,11 @@ fn print_rest<W: Write>(reported: Result<(), Refusal>, rows: &mut ReportRows<'_,
     }
 }
 
-/// Prints the energy of an accounting register on the days of a range, by period, in a unit and a
-/// format.
+/// Prints the energy of an accounting register (a named energy counter) on the days of a range, by
+/// period, in a unit and a format.
 ///
 /// If the office (the event engine) refuses the query, only `refused N` is printed. If `register`
-/// is `None`, no register has the name.
+/// is `None`, the query is treated as one for an unknown register.
 pub fn report_range<B: Books, W: Write>(
     office: &mut Office<B>,
     register: &Option<Name>,

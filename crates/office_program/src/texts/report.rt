@@ -1,4 +1,4 @@
-//! Prints the report of an accounting register by civil day.
+//! Prints the report of an accounting register (a named energy counter) by civil day.
 ghost use Rattle.office_program.specs.Texts.Reports.{Asks, ReportsDays, last_line, meant_by};
 ghost use Rattle.office_program.specs.Texts.EndTexts.{IsReported};
 
@@ -25,11 +25,11 @@ fn print_last<W: Write>(reported: Result<(), Refusal>, count: u64, output: &mut 
     }
 }
 
-/// Prints the energy of an accounting register by civil day, one line for each day, and then the
-/// number of days.
+/// Prints the energy of an accounting register (a named energy counter) by civil day, one line for
+/// each day, and then the number of days.
 ///
 /// If the office (the event engine) refuses the query, only `refused N` is printed. If `register`
-/// is `None`, no register has the name.
+/// is `None`, the query is treated as one for an unknown register.
 pub fn report_days<B: Books, W: Write>(
     office: &mut Office<B>,
     register: &Option<Name>,

@@ -30,10 +30,11 @@ fn print_cause<W: Write>(done: Result<(), RoundFault>, output: &mut W) -> Result
 }
 
 /// Polls a device once over a new link: one poll for each Modbus read of the device's plan. Prints
-/// the polling round as `round_over` does.
+/// each accepted event of the polling round in the format in which a script (a text of commands) is
+/// answered, as `round_over` does.
 ///
-/// If the office (the event engine) refused an event, `refused N` is printed last. If `device` is
-/// `None`, no device has the name.
+/// If the office (the event engine) refuses an event, the last printed line is `refused N` with the
+/// refusal's code. If `device` is `None`, the engine treats the device as unknown.
 pub fn poll_round<L: Link, B: Books, C: Clock, W: Write>(
     alloc: Global,
     link: &mut L,
@@ -54,10 +55,11 @@ pub fn poll_round<L: Link, B: Books, C: Clock, W: Write>(
     print_cause(done, output)
 }
 
-/// Returns the exit status of the command for the result of its polling round.
+/// Returns the exit status of the command that polls a device once, for the result of its polling
+/// round.
 ///
-/// The status is `Refused` if the event engine refused an event. It is `Failed` if the link or the
-/// output failed, or the round used all its reads of the link.
+/// The exit status is `Refused` if the event engine refused an event. It is `Failed` if the link to
+/// the device or the output failed, or the polling round used all its 100,000 reads of the link.
 pub fn round_status(done: Result<(), RoundFault>) -> ExitStatus
     ensures { result ≡ rounds.round_status done }
 {

@@ -1,5 +1,5 @@
-//! Prints the statements of the meters of an accounting register on a range of days. A statement is
-//! a report on one meter, to check a bill.
+//! Prints the statements of the meters of an accounting register (a named energy counter) on a
+//! range of days. A statement is a report on one meter, to check a bill.
 ghost use Rattle.std.specs.Prelude.{◌∷◌, []};
 ghost use Rattle.office_core.specs.Asking.{OnlyAsks};
 ghost use Rattle.office_program.specs.Texts.Reports.{Asks};
@@ -20,8 +20,8 @@ use office_events::{Installation, Name, Refusal};
 use std::alloc::Global;
 use std::io::Write;
 
-// The greatest number of meter entries that one query returns. `MOST_PIECES` is the largest number
-// of queries whose entry indexes all fit in 64 bits.
+// The largest number of meter entries that one query returns. `MOST_PIECES` is the largest number
+// of such queries for which each entry's index fits in 64 bits.
 const PIECE: u32 = 65536;
 
 const MOST_PIECES: u64 = 281_474_976_710_655;
@@ -196,9 +196,9 @@ fn statements<B: Books>(
 /// place on at least one day of the range. The meters come in the order of installation.
 ///
 /// The statement of a meter has its counter at its first and last entry in the range, and its
-/// energy in the range. It also has the meter's corrections and its number of rejected readings. If
-/// the office (the event engine) refuses a query, only `refused N` is printed. If `register` is
-/// `None`, no accounting register has the name.
+/// energy in the range. The statement also has the meter's corrections and the number of its
+/// rejected readings. If the office (the event engine) refuses a query, only `refused N` is
+/// printed. If `register` is `None`, the query is treated as one for an unknown register.
 pub fn report_statement<B: Books, W: Write>(
     alloc: Global,
     office: &mut Office<B>,

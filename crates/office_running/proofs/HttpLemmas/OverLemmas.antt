@@ -1,4 +1,5 @@
--- Lemmas on the energy of an accounting register over the earlier database files of a store.
+-- Lemmas: the response to a query for energy has the energy of an accounting register (a named
+-- energy counter) over the earlier and the current database files of a store.
 use Rattle.std.proofs.Common.{◌≡◌, ℕ, inl, inr, List, [], ◌∷◌, ◌++◌, map, Some, Result, Ok, Err, IsErr, refl, sym, ap, subst, ◌∙◌}
 use Rattle.std.specs.Prelude.{OnOk}
 use Rattle.std.specs.declared.alloc.Global.{Global}
@@ -37,7 +38,8 @@ pub append_whole : (text : List ℕ) (status : ExitStatus) (had holds : List ℕ
 append_whole text status had holds fine (inl reported) = reported.1
 append_whole text status had holds fine (inr failed) = absurd (let e : Fine ≡ Failed = sym fine ∙ failed.0 in cc e)
 
--- Lemmas on the energy of days, summed up over several database files.
+-- Lemmas: if the energy of days was summed up over several database files, then the energy report
+-- has these sums.
 
 module _ {B : Type 0} (ledger : B → Ledger) (a b : Office B) (zone : Zone) (earlier : EarlierDays) (register : List ℕ) (form : ReportForm) where
   abbrev asked : Span
@@ -85,8 +87,8 @@ module _ {B : Type 0} (ledger : B → Ledger) (a b : Office B) (zone : Zone) (ea
     puts = puts;
   }
 
-  -- If memory for the energy report runs out, then the function that writes it returns an error,
-  -- and its postcondition holds for any written text.
+  -- If memory for the energy report runs out, then the function that writes the report returns an
+  -- error, and its postcondition holds for any written text.
   pub unwritten : {E : Type 0} (had holds : List ℕ) (days : Vec DayTotal Global) (result : Result (Result (Unit {0}) Refusal) E) → OnlyAsks ledger a b (Ok days)
       → IsErr result → AsksEnergyOver ledger a b zone earlier register form had holds result
   unwritten had holds days (Ok reported) asks fault = cc fault
@@ -99,7 +101,8 @@ module _ {B : Type 0} (ledger : B → Ledger) (a b : Office B) (zone : Zone) (ea
     puts = tt;
   }
 
-  -- Lemmas on the response with the energy report.
+  -- Lemmas: if the energy report was written, then the response has this report. If memory runs
+  -- out, the function that builds the response returns an error.
 
   write_as : (answer reported : Result (Unit {0}) Refusal) (body report from to : List ℕ) → reported ≡ answer → OnOk answer (body ≡ report)
       → to ≡ with_energy_reply reported body from → to ≡ with_energy_reply answer report from

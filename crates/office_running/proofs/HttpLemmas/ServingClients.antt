@@ -1,4 +1,5 @@
--- Lemmas on the HTTP requests that the program executes, one request after the other.
+-- Lemmas: the program's state after HTTP connections follows from the requests that it executed,
+-- one request after the other.
 use Rattle.std.proofs.Common.{◌≡◌, ◌⊎◌, inl, inr, ℕ, true, false, Bool, List, [], ◌∷◌, ◌++◌, Option, Some, None, Result, Ok, Err, refl, sym, ap, ◌∙◌, subst}
 use Rattle.std.specs.Option.{option_and_then}
 use Rattle.std.specs.declared.alloc.AllocError.{AllocError}
@@ -70,14 +71,15 @@ both_ask names at ledger a b c first next = record {
   zone = next.zone ∙ first.zone;
 }
 
--- Lemmas on requests for the routes that the crate `office_http` defines.
+-- Lemmas: if the program executes a request for a route that the crate `office_http` defines, then
+-- the request's Host header was accepted.
 
 may_of : (may : Bool) (bytes : List ℕ) (head_state : HeadState) → IsRunRoute may bytes head_state None → may ≡ true
 may_of true bytes head_state is = refl
 may_of false bytes head_state is = cc is
 
--- If no route of `sunreg run` matches a request, then the request's Host header was already
--- accepted.
+-- If `sunreg run` has no route for a request, then the request's Host header was accepted before. A
+-- request with another host gets status 421 instead.
 pub may_ask_of : (names : List (List ℕ)) (request : List ℕ) → IsFor names request None → (left read : List ℕ) → request ≡ read ++ left → MayAsk names read
 may_ask_of names request for left read is = record {
   tested = request;
@@ -158,7 +160,8 @@ response_queries ledger old new context route Open responds = absurd responds
 response_queries ledger old new context route (Replied text) responds = route_queries {E = AllocError} ledger old new context route [] text.items (Ok tt) responds
 response_queries ledger old new context route Failed responds = route_queries ledger old new context route [] responds.0 (Err responds.1) responds.2
 
--- Lemmas on responses with many quarter hours.
+-- Lemmas: a response with many quarter hours is started as a streamed response, or the program only
+-- queries its store.
 
 -- Suppose that the store has the meter, and a function tried to start a streamed response that
 -- contains the meter's quarter hours. Then the client got the first chunk, or the program only
@@ -199,7 +202,8 @@ pub of_request : {B : Type 0} (ledger : B → Ledger) (old new : Office B) (tabl
 of_request ledger old new table request meter before after None asks may = may
 of_request ledger old new table request meter before after (Some response) asks may = record { meter = meter; asks = asks; begins = may }
 
--- Lemmas on the response to a request.
+-- Lemmas: the response to a request changes the program's state only by executing this request,
+-- after its Host header was accepted.
 
 office_serves : {B : Type 0} (names : List (List ℕ)) (ledger : B → Ledger) (at : ℕ) (old new : Office B) (table : Table) (request : List ℕ)
     (before after : Option RemainingRows) (rejects : Bool) (response : ClientResponse) → IsFor names request None

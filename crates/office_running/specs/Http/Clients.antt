@@ -1,4 +1,4 @@
--- Defines the effect of HTTP clients on the program's state and its store.
+-- Defines the effect of HTTP clients on the state of `sunreg run` and on its store.
 use Rattle.std.specs.Prelude.{◌≡◌, ℕ, List, [], ◌∷◌}
 use Rattle.office_books.specs.Ledgers.{Ledger}
 use Rattle.office_core.specs.Standing.{After, Stands, books_in}
@@ -11,9 +11,8 @@ abbrev pub AreAt : {names : List (List ℕ)} → (at : ℕ) → List (Connection
 AreAt at [] = Unit {0}
 AreAt at (one ∷ earlier) = (one.at ≡ at) × AreAt at earlier
 
--- States that the program's state follows from its earlier history of accepted events, continued by
--- the requests of some HTTP connections at the time `at`. The Host header of each request was
--- accepted.
+-- States that the program's state follows from the events accepted before (`past`) and the requests
+-- of some HTTP connections at the time `at`. The Host header of each request was accepted.
 pub record StandsAfterClients {B : Type 0} (names : List (List ℕ)) (at : ℕ) (ledger : B → Ledger)
     (past : History) (office : Office B) : Type 0 where
   pub connections : List (Connection names)

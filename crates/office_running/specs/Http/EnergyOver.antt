@@ -1,5 +1,6 @@
--- The energy report on an accounting register, over the earlier database files of a store and the
--- current file. The days of the earlier files are summed up, one file after the other.
+-- The energy report on an accounting register (a named energy counter), over the earlier database
+-- files of a store and the current file. The days of the earlier files are summed up, one file
+-- after the other.
 use Rattle.std.specs.Prelude.{◌≡◌, ◌⊎◌, ℕ, List, ◌∷◌, ◌++◌, Some, Result, Ok, Err, IfOk, OnOk}
 use Rattle.energy_report.specs.declared.form.ReportForm.{ReportForm}
 use Rattle.interval_core.specs.declared.zone.Zone.{Zone}
@@ -24,9 +25,9 @@ use Rattle.carried_books.specs.declared.joining.days.EarlierDays.{EarlierDays}
 use Rattle.run_http.specs.RegisterReplies.{with_energy_reply}
 
 -- States that the response reports the days of the current file and of the earlier files of the
--- store (`files`). There is no report if the current file has no such register, or the store or
--- memory failed. There is also no report if the program refuses all events after a failure, or if
--- quarter hours of the range are out of order.
+-- store (`files`). There is no report if the current file does not have the accounting register (a
+-- named energy counter), or the store or memory failed. There is also no report if the program
+-- refuses all events after a failure, or if quarter hours of the range are out of order.
 abbrev pub ReportsOver : Zone → (facts : List Fact) → (files : List (List Fact))
     → (register : List ℕ) → ReportForm → (before after : Failures)
     → Result (Unit {0}) Refusal → (text : List ℕ) → Type 0
@@ -51,8 +52,8 @@ ReportsReportOver ledger old new zone earlier register form answer text =
     → ReportsOver zone (facts_of past) files register form
     (failures_of ledger old) (failures_of ledger new) answer text)
 
--- The contract of a function that queries the store once, and appends the energy report, unless the
--- program refuses the query or memory runs out.
+-- The contract of a function that queries the store once and appends the energy report. The
+-- function appends no report if the program refuses the query or memory runs out.
 pub record AsksEnergyOver {B : Type 0} (ledger : B → Ledger) (old new : Office B)
     (zone : Zone) (earlier : EarlierDays) (register : List ℕ) (form : ReportForm) (had holds : List ℕ)
     {E : Type 0} (result : Result (Result (Unit {0}) Refusal) E) : Type 0 where

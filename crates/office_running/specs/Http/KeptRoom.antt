@@ -24,15 +24,15 @@ pub record IsCommand (bytes : List ℕ) (result : Bool) : Type 0 where
   pub looks : Looks bytes head_state
   pub is : result ≡ is_command_in bytes head_state
 
--- True if the response has status 200. Then the command was executed, now or for an earlier request
--- with the same idempotency key.
+-- True if the response has status 200, so the request's command was executed, now or for an earlier
+-- request with the same idempotency key.
 abbrev pub has_acted : ClientResponse → Bool
 has_acted reply.Open = false
 has_acted (reply.Replied text) = starts_with (λ a b. a == b) text.items (codes "HTTP/1.1 200 ")
 has_acted reply.Failed = false
 
--- The bytes that may still be stored: the limit `most` less the `taken` bytes. Without a limit,
--- 2^64 - 1 bytes remain.
+-- The bytes of commands that may still be stored: the limit `most` less the `taken` bytes that are
+-- already stored. Without a limit, 2^64 - 1 bytes remain.
 abbrev pub room_of : (most : Option ℕ) → (taken : ℕ) → ℕ
 room_of None taken = 18446744073709551615
 room_of (Some most) taken = most - taken
@@ -44,16 +44,17 @@ pub record Lacks (left : ℕ) (bytes : List ℕ) (result : Bool) : Type 0 where
   pub finds : IsCommand bytes is_command
   pub is : result ≡ (is_command && nat_lt left (length bytes))
 
--- States that `result` is true exactly if the HTTP server rejects the request. It rejects a command
--- that exceeds the bytes that may still be stored, and every command while a file of the store is
--- missing.
+-- States that `result` is true exactly if the HTTP server rejects the request. The server rejects a
+-- command with more bytes than may still be stored (`left`), and every command while a file of the
+-- store is missing.
 pub record Rejects (left : ℕ) (is_lost : Bool) (bytes : List ℕ) (result : Bool) : Type 0 where
   pub is_command : Bool
   pub finds : IsCommand bytes is_command
   pub is : result ≡ (is_command && (nat_lt left (length bytes) || is_lost))
 
--- States that an executed command reduces the remaining bytes by the length of its request. Other
--- requests leave the remaining bytes unchanged.
+-- States how a request changes the number of bytes of commands that may still be stored. An
+-- executed command reduces the number by the length of its request. Any other request leaves the
+-- number unchanged.
 pub record Counts (left later : ℕ) (bytes : List ℕ) (reply : ClientResponse) : Type 0 where
   pub is_command : Bool
   pub finds : IsCommand bytes is_command

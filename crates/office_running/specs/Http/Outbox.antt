@@ -1,4 +1,5 @@
--- The outcome of a read from a socket or a write to it.
+-- The outcome of a read from a socket or a write to the socket: a retry, a wait until the socket is
+-- ready, or the end of the connection.
 use Rattle.std.specs.declared.io.ErrorKind.{ErrorKind}
 use Rattle.std.specs.declared.io.ErrorKind.TheVariants as kind
 use Rattle.office_running.specs.declared.http.outbox.Went.{Went}

@@ -50,9 +50,10 @@ use Rattle.office_running.specs.declared.http.http_port.HttpPort.{HttpPort}
 use Rattle.office_running.specs.declared.http.repeats.Replied as stored
 use Rattle.office_running.specs.declared.http.run_context.RunContext.{RunContext}
 
--- The contract of a function that appends the response with the energy of an accounting register.
--- If earlier database files have the register (`earlier`), the energy is that in these files and
--- the current file. Otherwise it is that in the current file.
+-- The contract of a function that appends the response with the energy of an accounting register (a
+-- named energy counter). If earlier database files have the register (`earlier`), the response has
+-- the energy in these files and in the current file. If not, it has only the energy in the current
+-- file.
 abbrev pub RepliesDays : {B : Type 0} → (B → Ledger) → (old new : Office B) → Zone
     → (earlier : Option EarlierRegister) → (register : Option (List ℕ)) → ReportForm
     → (from to : List ℕ) → {E : Type 0} → Result (Unit {0}) E → Type 0
@@ -107,8 +108,8 @@ RespondsByRoute ledger old new context route Failed =
 -- Definitions on the responses that contain many quarter hours and are therefore sent in chunks.
 
 -- States the effect of starting a streamed response whose first chunk is `text`. `after` has the
--- rows of later chunks. If the program refused the query, there is no response yet. If memory ran
--- out, the response is `Failed`.
+-- rows of later chunks. If the program refused the query, there is no response yet, and if memory
+-- ran out, the response is `Failed`. In both cases `after` equals `before`.
 abbrev pub IsBegunWith : (text : Vec ℕ Global) → Result (Result RemainingRows Refusal) AllocError
     → (before after : Option RemainingRows) → Option ClientResponse → Type 0
 IsBegunWith text (Ok (Ok left)) before after response =
@@ -133,8 +134,9 @@ pub record BeginsRows {B : Type 0} (ledger : B → Ledger) (old new : Office B)
   pub begins : BeginsReply ledger mid new it from till reply text.items result
   pub is : IsBegunWith text result before after (Some response)
 
--- States that a function starts a streamed response that contains the quarter hours of a meter, or
--- only queries the store. In the second case, the function's caller builds the response.
+-- States that a function either starts a streamed response with the quarter hours of a meter, or
+-- only queries the store and returns no response. If it returns none, the function's caller builds
+-- the response.
 abbrev pub MayBeginRows : {B : Type 0} → (B → Ledger) → (old new : Office B)
     → (meter : Option (List ℕ)) → (from till : ℕ) → (reply : List Share → List ℕ)
     → (before after : Option RemainingRows) → Option ClientResponse → Type 0
@@ -143,8 +145,8 @@ MayBeginRows ledger old new meter from till reply before after None =
 MayBeginRows ledger old new meter from till reply before after (Some response) =
     BeginsRows ledger old new meter from till reply before after response
 
--- States that the route requests quarter hours of a meter, and that a function starts the streamed
--- response that contains them.
+-- States that a route (the parsed target of an HTTP request) asks for quarter hours of a meter, and
+-- that the program starts the streamed response with them.
 pub record BeginsRoute {B : Type 0} (ledger : B → Ledger) (old new : Office B) (route : RunRoute)
     (before after : Option RemainingRows) (response : ClientResponse) : Type 0 where
   pub meter : Option (List ℕ)
@@ -153,8 +155,9 @@ pub record BeginsRoute {B : Type 0} (ledger : B → Ledger) (old new : Office B)
   pub is : route ≡ Intervals meter (Between from till)
   pub begins : BeginsRows ledger old new meter from till (with_rows []) before after response
 
--- States that a function starts the streamed response of a route that requests quarter hours, or
--- only queries the store. In the second case, the function's caller builds the response.
+-- States that a function either starts the streamed response of a route that requests quarter
+-- hours, or only queries the store and returns no response. If it returns none, the function's
+-- caller builds the response.
 abbrev pub MayBeginRoute : {B : Type 0} → (B → Ledger) → (old new : Office B) → RunRoute
     → (before after : Option RemainingRows) → Option ClientResponse → Type 0
 MayBeginRoute ledger old new route before after None =
@@ -172,8 +175,9 @@ pub record BeginsAll {B : Type 0} (ledger : B → Ledger) (old new : Office B) (
   pub begins : BeginsRows ledger old new meter 0 18446744073709551615 (with_all_rows [])
       before after response
 
--- States that a function starts a streamed response that contains all quarter hours of a meter, or
--- only queries the store. In the second case, the function's caller builds the response.
+-- States that a function either starts a streamed response with all quarter hours of a meter, or
+-- only queries the store and returns no response. If it returns none, the function's caller builds
+-- the response.
 abbrev pub MayBeginAll : {B : Type 0} → (B → Ledger) → (old new : Office B) → Table
     → (request : List ℕ) → (before after : Option RemainingRows) → Option ClientResponse → Type 0
 MayBeginAll ledger old new table request before after None =
@@ -181,7 +185,8 @@ MayBeginAll ledger old new table request before after None =
 MayBeginAll ledger old new table request before after (Some response) =
     BeginsAll ledger old new table request before after response
 
--- Definitions on the response to a request.
+-- Definitions of the response that a client gets to an HTTP request: complete, in chunks, from the
+-- cache, or status 503.
 
 -- States that the client gets status 503, because the server rejects a command. If memory ran out,
 -- the client gets nothing.
@@ -191,8 +196,8 @@ IsUnavailable (Replied text) =
     text.items ≡ with_reply Unavailable (codes "application/json") (fault_text Unavailable) []
 IsUnavailable Failed = Unit {0}
 
--- States that the client gets the complete response of the route. Before the response, the program
--- only queried its store, or did nothing.
+-- States that the client gets the complete response of the HTTP route `route`. Before it built the
+-- response, the program at most queried its store.
 pub record RespondsWhole {B : Type 0} (ledger : B → Ledger) (old new : Office B)
     (context : RunContext) (route : RunRoute) (response : ClientResponse)
     : Type 0 where
@@ -209,7 +214,7 @@ BeginsResponse ledger old new context route before after response =
     ⊎ ((after ≡ before) × RespondsWhole ledger old new context route response)
 
 -- States that the program executes a request for a route that the crate `office_http` defines.
--- Before the request, the program only queried its store, or did nothing.
+-- Before the program executed the request, it at most queried its store.
 pub record Executes {B : Type 0} (ledger : B → Ledger) (at : ℕ) (old new : Office B)
     (request : List ℕ) (response : ClientResponse) : Type 0 where
   pub mid : Office B
@@ -218,7 +223,7 @@ pub record Executes {B : Type 0} (ledger : B → Ledger) (at : ℕ) (old new : O
   pub lasts : Lasts ledger mid new
 
 -- States that the client gets the response to a request for a route that the crate `office_http`
--- defines. If `rejects` is true, the request is a rejected command: it changes nothing and gets
+-- defines. If `rejects` is true, the request is a rejected command, which changes nothing and gets
 -- status 503.
 abbrev pub RespondsToOffice : {B : Type 0} → (B → Ledger) → (at : ℕ) → (old new : Office B)
     → Table → (request : List ℕ) → (before after : Option RemainingRows) → (rejects : Bool)
@@ -239,8 +244,8 @@ pub record ExecutesUnlessRejected {B : Type 0} (ledger : B → Ledger) (at : ℕ
   pub tests : Rejects left is_lost request rejects
   pub responds : RespondsToOffice ledger at old new table request before after rejects response
 
--- States that the client gets the response of the request's route of `sunreg run`. A request
--- without such a route is executed, or rejected if it is a command that may not be stored.
+-- States that the client gets the response of the request's route of `sunreg run`. A request for
+-- any other route is executed, or rejected if it is a command that may not be stored.
 abbrev pub RespondsBy : {B : Type 0} → (B → Ledger) → HttpPort → (old new : Office B)
     → (request : List ℕ) → RunContext → Option RunRoute
     → (before after : Option RemainingRows) → ClientResponse → Type 0
@@ -250,8 +255,8 @@ RespondsBy ledger port old new request context None before after response =
 RespondsBy ledger port old new request context (Some route) before after response =
     BeginsResponse ledger old new context route before after response
 
--- States that the client gets the response of the route that its own request names. A request with
--- a rejected host has a route whose response is an error.
+-- States that the client gets the response of the route that the client's request names. A request
+-- with a rejected Host header gets an error response.
 pub record RespondsTo {B : Type 0} (ledger : B → Ledger) (port : HttpPort) (old new : Office B)
     (request : List ℕ) (context : RunContext) (before after : Option RemainingRows)
     (response : ClientResponse) : Type 0 where
@@ -276,8 +281,8 @@ RespondsAgain ledger port old new request context before after response =
     × IsStored port.repeats.latest request response)
     ⊎ RespondsTo ledger port old new request context before after response
 
--- States that the program built the response to this request or had it in its cache, and did
--- nothing else to its store. So only this client's request can have changed the store.
+-- States that the program built the response to this HTTP request, or had the response in its
+-- cache. Apart from executing this request, the program did nothing to its store.
 pub record Answers {B : Type 0} (ledger : B → Ledger) (port : HttpPort) (old new : Office B)
     (request : List ℕ) (context : RunContext) : Type 0 where
   pub after : Option RemainingRows

@@ -15,13 +15,13 @@ pub(crate) struct Client {
     pub(crate) stream: TcpStream,
     /// The bytes of the client's request that have arrived.
     pub(crate) request: Vec<u8>,
-    /// Whether the socket may have unread input or room for output.
+    /// Whether the client's socket may have unread input or room for output.
     pub(crate) ready: bool,
     /// The time in seconds until which the connection discards further input, after the response
     /// was written.
     pub(crate) lingers: Option<u64>,
     reply: Outbox,
-    /// The rows of the response that are still to be queried.
+    /// The rows for later chunks of the response, which the server has not queried yet.
     pub(crate) rows: Option<RemainingRows>,
     ended: bool,
     over: bool,
@@ -49,29 +49,29 @@ impl Client {
         }
     }
 
-    /// Returns whether the connection has ended and can be dropped.
+    /// Returns whether the client's connection has ended and can be dropped.
     pub(crate) fn is_over(&self) -> bool {
         self.over
     }
 
-    /// Returns whether the request has a response, complete or in part.
+    /// Returns whether the client's request has a response, complete or in part.
     pub(crate) fn has_reply(&self) -> bool {
         !self.reply.is_empty() || self.rows.is_some() || self.lingers.is_some()
     }
 
     /// Returns whether the next chunk of the response is due: the earlier chunks were written, and
-    /// rows are left.
+    /// rows of the response are left.
     pub(crate) fn wants_rows(&self) -> bool {
         !self.over && self.rows.is_some() && self.reply.is_written()
     }
 
-    /// Returns how many bytes of the response are in memory.
+    /// Returns how many bytes of the client's HTTP response are in memory.
     pub(crate) fn held_bytes(&self) -> usize {
         self.reply.len()
     }
 
-    // Appends a piece of input to the request. Drops the piece if the request already has a
-    // response.
+    // Appends bytes that a client sent to its HTTP request. Drops the bytes if the request already
+    // has a response.
     fn keep_piece(&mut self, piece: &[u8]) -> Went {
         if self.has_reply() {
             return Went::On;
@@ -109,7 +109,7 @@ impl Client {
         Went::On
     }
 
-    // Returns whether the response is still being sent.
+    // Returns whether the client's HTTP response is still being sent.
     fn is_replying(&self) -> bool {
         self.has_reply() && self.lingers.is_none()
     }
@@ -132,8 +132,8 @@ impl Client {
         false
     }
 
-    /// Starts to send the response. `rows` are the rows that follow in later chunks. The bytes of
-    /// the request are freed.
+    /// Starts to send the response. `rows` are the rows that the later chunks of the response
+    /// contain. The bytes of the request are freed.
     pub(crate) fn start_reply(&mut self, asked: ClientResponse, rows: Option<RemainingRows>) {
         match asked {
             ClientResponse::Open => self.over = self.ended,
@@ -147,7 +147,7 @@ impl Client {
         }
     }
 
-    /// Replaces the written chunk of the response with the next chunk.
+    /// Replaces the written chunk of the client's HTTP response with the next chunk.
     pub(crate) fn append_rows(&mut self, more: Vec<u8>, is_last: bool) {
         self.reply = Outbox::new(more);
         if is_last {
@@ -155,8 +155,8 @@ impl Client {
         }
     }
 
-    /// Ends the connection before the response is complete, so that the client detects an
-    /// incomplete body.
+    /// Ends the client's HTTP connection before the response is complete, so that the client
+    /// detects an incomplete body.
     pub(crate) fn cut_reply(&mut self) {
         self.over = true;
     }
@@ -175,7 +175,7 @@ impl Client {
         }
     }
 
-    // Shuts down the socket's output if the response is complete.
+    // Shuts down the output of the client's socket if the HTTP response is complete.
     fn close(&mut self, time: u64) {
         self.ready = true;
         if self.reply.is_written() && self.rows.is_none() {
@@ -185,8 +185,8 @@ impl Client {
         }
     }
 
-    /// Returns whether the response is complete and the time for discarding further input has
-    /// passed.
+    /// Returns whether the client's HTTP response is complete and the time for discarding further
+    /// input has passed.
     pub(crate) fn is_done(&self, time: u64) -> bool {
         match self.lingers {
             Some(until) => until <= time,

@@ -1,5 +1,5 @@
-//! The energy of an accounting register over earlier database files of the store and the current
-//! file.
+//! The energy of an accounting register (a named energy counter) over earlier database files of the
+//! store and the current file.
 ghost use Rattle.std.specs.Prelude.{◌≡◌, ◌++◌, OnOk};
 ghost use Rattle.std.specs.List.{find};
 ghost use Rattle.std.specs.Option.{option_copied};
@@ -25,7 +25,7 @@ pub struct EarlierFiles<'a> {
     pub registers: &'a [EarlierRegister],
 }
 
-// Writes the lines of the energy report for these days. Fails only if memory runs out.
+// Writes the energy report's lines for the days in `days`. Fails only if memory runs out.
 fn write_days(days: &[DayTotal], form: &ReportForm, output: &mut Vec<u8>) -> Result<(), AllocError>
     ensures { OnOk result (output.new.items
         ≡ output.old.items ++ report_text form.now days.now) }
@@ -36,8 +36,8 @@ fn write_days(days: &[DayTotal], form: &ReportForm, output: &mut Vec<u8>) -> Res
     }
 }
 
-// Writes the energy report on an accounting register over the earlier database files and the
-// current file.
+// Writes the energy report on an accounting register (a named energy counter) over the earlier
+// database files and the current file.
 fn write_energy_over<B: Books>(
     office: &mut Office<B>,
     zone: Zone,
@@ -59,10 +59,10 @@ fn write_energy_over<B: Books>(
     }
 }
 
-/// Appends the response with the energy report on an accounting register. The report covers the
-/// days of earlier database files and of the current file, in the site's time zone. If the report's
-/// range has both ends, only the quarter hours of the range and of two days on each side are read.
-/// If memory runs out, a part of the response is appended.
+/// Appends the response with the energy report on an accounting register (a named energy counter).
+/// The report covers the days of earlier database files and of the current file, in the site's time
+/// zone. If the report's range has both ends, only the quarter hours of the range and of two days
+/// on each side are read. If memory runs out, a part of the response is appended.
 pub(crate) fn reply_energy_over<B: Books>(
     alloc: Global,
     text: &mut Vec<u8>,
@@ -80,8 +80,8 @@ pub(crate) fn reply_energy_over<B: Books>(
     write_energy_reply(text, &answer, &body)
 }
 
-// Returns whether the accounting register of an earlier database file has this name. `None` is an
-// invalid name, which no register has.
+// Returns whether the accounting register (a named energy counter) of an earlier database file has
+// this name. `None` is an invalid name, which no register has.
 fn is_of(it: &EarlierRegister, register: &Option<Name>) -> bool
     ensures { result ≡ is_named register.now it.now.name }
 {
@@ -91,8 +91,8 @@ fn is_of(it: &EarlierRegister, register: &Option<Name>) -> bool
     }
 }
 
-/// Returns the first accounting register with this name among the registers of earlier database
-/// files.
+/// Returns the first accounting register (a named energy counter) with this name among the
+/// registers of earlier database files.
 pub(crate) fn earlier_named<'a>(
     registers: &'a [EarlierRegister],
     register: &Option<Name>,

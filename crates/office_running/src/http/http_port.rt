@@ -51,14 +51,14 @@ pub struct HttpPort {
     router: Router<Route>,
     client_slots: ClientSlots,
     connections: Vec<Option<Client>>,
-    /// The limits on responses that remain in this pass of the event loop.
+    /// The limits on responses (time, number and bytes) that remain in this pass of the event loop.
     share: TurnShare,
     /// The index of the connection that is served first in this pass of the event loop.
     first: usize,
     room: KeptRoom,
     repeats: Repeats,
-    /// Whether a command was rejected because the limit for stored commands was reached, and the
-    /// rejection is not logged yet.
+    /// Whether a command was rejected because the limit for stored commands (`--most-kept`) was
+    /// reached, and the rejection is not logged yet.
     is_full: bool,
     /// Whether a file of the store is missing. Then every command is rejected.
     is_lost: bool,
@@ -100,22 +100,23 @@ impl HttpPort {
         })
     }
 
-    /// Begins an iteration of the main loop, with its full limits on responses. The limits bound
-    /// how long HTTP delays the polling of devices.
+    /// Begins an iteration of the main loop: restores the full limits on the HTTP responses of one
+    /// iteration. The limits bound how long HTTP delays the polling of devices.
     pub fn begin_turn(&mut self) {
         self.share = TurnShare::whole();
     }
 
-    /// Returns the slot (index) of the connection that is served first. It follows the slot that
-    /// was answered last, or is that slot if its response has more rows.
+    /// Returns the slot (index) of the connection that is served first. This is the slot after the
+    /// one that was answered last. If the response in the last slot has more rows, it is the last
+    /// slot itself.
     pub fn first(&self) -> usize
         ensures { result ≡ self.now.first }
     {
         self.first
     }
 
-    // Subtracts a response from the limits of this pass of the event loop. The next pass then
-    // begins with the next connection.
+    // Subtracts a response from the limits on responses in this pass of the event loop. The next
+    // pass then serves the next connection first.
     fn record_reply(&mut self, slot: usize, bytes: usize, milliseconds: u64)
         ensures { self.new.room ≡ self.old.room }
     {
@@ -124,7 +125,7 @@ impl HttpPort {
     }
 
     /// Returns whether a command was rejected since the last call because the limit for stored
-    /// commands was reached.
+    /// commands (`--most-kept`) was reached.
     pub fn take_full(&mut self) -> bool
         ensures taken { result ≡ self.old.is_full }
         ensures later { self.new.is_full ≡ false }
@@ -238,7 +239,7 @@ impl HttpPort {
         }
     }
 
-    // Drops the earlier connection in a slot for connections.
+    // Drops the connection in a slot (one of up to 64 places for connections), if the slot has one.
     fn vacate_slot(&mut self, slot: usize) {
         if slot < self.connections.len() {
             self.connections[slot] = None;
@@ -264,7 +265,7 @@ impl HttpPort {
 
     // Executes a request for a route that `sunreg serve` and `sunreg run` share, after no route of
     // `sunreg run` alone matched. Rejects a command if the limit for stored commands is reached or
-    // a file of the store is missing. `rows` receives the rows that later chunks send.
+    // a file of the store is missing. `rows` receives the rows for later chunks of the response.
     fn execute<B: Books>(
         &self,
         request: &[u8],
@@ -287,7 +288,7 @@ impl HttpPort {
     }
 
     // Makes the response to a complete request, or the first chunk of a long response. `rows`
-    // receives the rows that later chunks send.
+    // receives the rows for later chunks of the response.
     fn reply<B: Books>(
         &self,
         request: &[u8],
@@ -307,8 +308,8 @@ impl HttpPort {
     }
 
     // Returns the cached response if the request asks for energy, is equal to the cached request,
-    // and nothing was recorded since. Otherwise makes a new response. So no command gets a cached
-    // response.
+    // and the store recorded nothing since. Otherwise makes a new response. So a command never gets
+    // a cached response.
     #[tactic(auto, using(crate::proofs::HttpLemmas::ServingClients::nobody_asks))]
     fn reply_again<B: Books>(
         &mut self,
@@ -345,7 +346,8 @@ impl HttpPort {
         }
     }
 
-    // Adds the response headers that protect users of browsers.
+    // Adds the response headers that protect users of browsers: a browser does not guess the type
+    // of the body, and other sites cannot use the body.
     fn add_browser_headers(
         &self,
         names: &[&str],
@@ -375,8 +377,8 @@ impl HttpPort {
         }
     }
 
-    // Removes the connection from its place in the list of connections, if the connection is served
-    // now.
+    // Removes the client connection of a slot from the list of connections and returns it, if the
+    // server serves this slot in this iteration of the main loop. Otherwise returns None.
     fn take_ready(&mut self, slot: usize) -> Option<Client> {
         if self.has_turn(slot) && slot < self.connections.len() {
             return self.connections[slot].take();
@@ -396,7 +398,7 @@ impl HttpPort {
         }
     }
 
-    // Cuts off all responses with rows still to be sent. A request to void an entry (to withdraw a
+    // Cuts off each response that still has rows to send. A request to void an entry (to withdraw a
     // false reading) may have changed these rows.
     fn cut_replies(&mut self)
         ensures { self.new.room ≡ self.old.room }
@@ -408,17 +410,18 @@ impl HttpPort {
         }
     }
 
-    // Lets the next iteration of the main loop begin with this connection if its response has more
-    // rows. Responses then end one after the other, and no client waits for all other responses.
+    // If the response in slot `slot` has more rows, lets the next iteration of the main loop begin
+    // with this connection. Responses then end one after the other, and no client waits for all
+    // other responses.
     fn keep_first(&mut self, slot: usize, has_more: bool) {
         if has_more {
             self.first = slot;
         }
     }
 
-    // Updates the limits after a response: those of this iteration of the main loop, and the limit
-    // for stored commands. A request that may void (withdraw) an entry cuts off all streamed
-    // responses, because the request may change their rows.
+    // Subtracts a response from the limits of this iteration of the main loop, and an executed
+    // command from the limit for stored commands. A request that may void (withdraw) an entry cuts
+    // off all streamed responses, because the request may change their rows.
     fn count_reply(
         &mut self,
         slot: usize,
@@ -524,7 +527,7 @@ impl HttpPort {
         }
     }
 
-    // Reads from a client and answers its request, or sends more of its response.
+    // Reads from a client and answers the client's request, or sends more of the client's response.
     fn serve_client<R: RunSystem, B: Books>(
         &mut self,
         rt: &R,
@@ -543,8 +546,8 @@ impl HttpPort {
         self.send_pieces(rt, slot, client, office, context.at.time);
     }
 
-    /// Serves the connection in a slot, if the connection is ready and the limits of this iteration
-    /// of the main loop allow it.
+    /// Serves the HTTP connection in a slot (one of up to 64 places for connections). The
+    /// connection must be ready, and the limits of this iteration of the main loop must allow it.
     #[tactic(auto, using(crate::proofs::HttpLemmas::ServingClients::nobody_asks))]
     pub fn attend<R: RunSystem, B: Books>(
         &mut self,

@@ -39,7 +39,7 @@ fn begun_answer(
 }
 
 // Starts a streamed response that contains the quarter hours of a meter from `from` until `till`.
-// Returns `None` if they fit in one chunk, or if the program refused a query.
+// Returns `None` if the quarter hours fit in one chunk, or if the program refused a query.
 fn begin_rows<B: Books>(
     alloc: Global,
     office: &mut Office<B>,
@@ -62,7 +62,7 @@ fn begin_rows<B: Books>(
     begun_answer(text, begun, rows)
 }
 
-/// Starts the streamed response of a route that requests the quarter hours of a time span, if they
+/// Starts the streamed response of a route that requests the quarter hours of a time span, if these
 /// exceed one chunk. `rows` receives the rows of the later chunks. Returns `None` for any other
 /// route.
 pub(crate) fn begin_route<B: Books>(
@@ -108,8 +108,8 @@ pub(crate) fn begin_all<B: Books>(
     begun_answer(text, begun, rows)
 }
 
-/// Appends the next chunk of a streamed response or its last part, and returns whether it was the
-/// last part. Returns `None` if the store failed or memory ran out.
+/// Appends the next chunk of a streamed response, or its end if no rows remain. Returns true if
+/// this was the end, or `None` if the store failed or memory ran out.
 #[tactic(auto, using(crate::proofs::HttpLemmas::ServingClients::queries_nothing, crate::proofs::HttpLemmas::ServingClients::queries_reported))]
 pub(crate) fn append_piece<B: Books>(
     alloc: Global,

@@ -26,8 +26,8 @@ pub(crate) fn is_command(request: &[u8]) -> bool
     }
 }
 
-// Returns whether a response has status 200. Then the command was executed, now or for an earlier
-// request with the same idempotency key.
+// Returns true if a response has status 200, so the request's command was executed, now or for an
+// earlier request with the same idempotency key.
 fn has_acted(reply: &ClientResponse) -> bool
     ensures { result ≡ kept.has_acted reply.now }
 {
@@ -46,8 +46,8 @@ pub(crate) fn is_acknowledged(request: &[u8], reply: &ClientResponse) -> bool
 }
 
 impl KeptRoom {
-    /// Returns the bytes that remain of the limit `most` after `taken` bytes. If `most` is `None`,
-    /// there is no limit.
+    /// Creates the number of bytes of commands that may still be stored: the limit `most` less the
+    /// `taken` bytes that are stored. If `most` is `None`, there is no limit.
     pub fn new(most: Option<u64>, taken: u64) -> KeptRoom
         ensures { result.left ≡ kept.room_of most taken }
     {
@@ -58,7 +58,8 @@ impl KeptRoom {
         KeptRoom { left }
     }
 
-    /// Returns whether a request is a command with more bytes than may still be stored.
+    /// Returns whether a request is a command with more bytes than the limit on stored commands
+    /// still allows.
     pub fn lacks(&self, request: &[u8]) -> bool
         ensures { Lacks self.now.left request.now result }
     {
@@ -73,8 +74,9 @@ impl KeptRoom {
         is_command(request) && (request.len() as u64 > self.left || is_lost)
     }
 
-    /// Subtracts an executed command from the remaining bytes, by the length of its complete
-    /// request. The store records less, because it has no HTTP heads and no repeated requests.
+    /// Subtracts the length of the complete request of an executed command from the bytes that may
+    /// still be stored. The store needs fewer bytes, because it stores neither HTTP heads nor
+    /// repeated requests.
     pub fn count(&mut self, request: &[u8], reply: &ClientResponse)
         ensures { Counts self.old.left self.new.left request.now reply.now }
     {

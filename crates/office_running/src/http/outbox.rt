@@ -9,18 +9,21 @@ use std::io::{ErrorKind, Write};
 /// The maximum number of reads from a socket in a row, and of writes to a socket in a row.
 pub(crate) const MOST_CALLS: u32 = 16;
 
-/// The outcome of a read from a socket or a write to it.
+/// The outcome of a read from a socket or a write to the socket: continue at once, wait until the
+/// socket is ready, or end the connection.
 #[derive(Clone, Copy)]
 pub enum Went {
-    /// Some bytes were read or written, or the system call was interrupted.
+    /// At least one byte was read from the socket or written to it, or the system call was
+    /// interrupted.
     On,
     /// The socket has no input, or no room for output, at present.
     Waits,
-    /// The connection has ended or failed.
+    /// The client's connection has ended, or a read or write of its socket failed.
     Over,
 }
 
-/// Returns the outcome of a failed read or write.
+/// Returns the outcome of a failed read or write of a socket: retry, wait until the socket is
+/// ready, or end the connection.
 pub fn went_by(kind: ErrorKind) -> Went
     ensures { result ≡ went_of kind }
 {
@@ -39,7 +42,7 @@ pub struct Outbox {
 }
 
 impl Outbox {
-    /// Makes an output buffer with these unsent bytes.
+    /// Makes an output buffer with the unsent bytes `bytes`.
     pub fn new(bytes: Vec<u8>) -> Outbox
         ensures bytes { result.bytes.items ≡ bytes.items }
         ensures written { result.written ≡ 0 }
@@ -76,7 +79,7 @@ impl Outbox {
         self.written >= self.bytes.len()
     }
 
-    /// Appends bytes to the unsent bytes. Fails if memory runs out.
+    /// Appends bytes to those that wait to be written to a socket. Fails if memory runs out.
     pub fn push_bytes(&mut self, bytes: &[u8]) -> Result<(), AllocError>
         ensures { OnOk result (drop self.new.written self.new.bytes.items
             ≡ drop self.old.written self.old.bytes.items ++ bytes.now) }

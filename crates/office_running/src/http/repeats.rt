@@ -14,8 +14,9 @@ pub(crate) struct Replied {
     pub(crate) reply: Vec<u8>,
 }
 
-/// The cache with the latest response about energy. The energy of an accounting register is summed
-/// over all its rows, and many clients with equal queries would repeat that sum.
+/// The cache with the latest response about energy. The energy of an accounting register (a named
+/// energy counter) is summed over all its rows, and many clients with equal queries would repeat
+/// that sum.
 #[derive(Drop)]
 pub(crate) struct Repeats {
     pub(crate) latest: Option<Replied>,
@@ -42,8 +43,8 @@ impl Repeats {
         Repeats { latest: None }
     }
 
-    /// Replaces the cached response. Only a response with status 200 and at most 64 KiB is cached,
-    /// and only if memory suffices.
+    /// Replaces the cached response. The new response is cached only if it has status 200 and at
+    /// most 64 KiB, and memory suffices.
     pub(crate) fn keep(&mut self, alloc: Global, request: &[u8], reply: &[u8])
         ensures { IfSome self.new.latest (λ it. repeats.IsOf request.now reply.now it) }
     {
@@ -54,15 +55,15 @@ impl Repeats {
         };
     }
 
-    /// Drops the cached response.
+    /// Drops the cached request and its cached response.
     pub(crate) fn forget(&mut self)
         ensures { self.new.latest ≡ None }
     {
         self.latest = None;
     }
 
-    /// Returns a copy of the cached response if the request is equal to the cached request, byte
-    /// for byte. Returns `None` otherwise, or if memory runs out.
+    /// Returns a copy of the cached response if the request is equal, byte for byte, to the request
+    /// for which the response was cached. Returns `None` if the requests differ or memory runs out.
     pub(crate) fn again(&self, alloc: Global, request: &[u8]) -> Option<Vec<u8>>
         ensures { IfSome result (λ reply.
             repeats.WasReplied self.now.latest request.now reply.items) }

@@ -20,8 +20,8 @@ use run_http::{
 };
 use std::alloc::{AllocError, Global};
 
-// Appends the response with the energy of an accounting register, including its energy in earlier
-// database files that have the register.
+// Appends the response with the energy of an accounting register (a named energy counter),
+// including the register's energy in earlier database files.
 fn reply_days<B: Books>(
     alloc: Global,
     text: &mut Vec<u8>,
@@ -96,9 +96,9 @@ pub fn respond<B: Books>(
     }
 }
 
-/// Returns the response of a route: complete, or its first chunk if the route has many quarter
-/// hours. `rows` then receives the rows of the later chunks. The result is `Failed` if
-/// memory ran out.
+/// Returns the response of a route: the complete response, or the first chunk if the route requests
+/// many quarter hours. After a first chunk, `rows` receives the rows of the later chunks. The
+/// result is `Failed` if memory ran out.
 pub(crate) fn begin_response<B: Books>(
     alloc: Global,
     office: &mut Office<B>,

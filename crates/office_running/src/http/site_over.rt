@@ -1,5 +1,5 @@
-//! The response of `/site`: the accounting registers, with meters of the current and earlier
-//! database files.
+//! The response of `/site`: the accounting registers (named energy counters), with meters of the
+//! current and earlier database files.
 ghost use Rattle.std.specs.Prelude.{◌≡◌, IfOk, OnOk, map};
 ghost use Rattle.run_http.specs.SiteReply.{RepliesSite};
 ghost use Rattle.office_running.specs.Http.SiteOver as site;
@@ -11,8 +11,9 @@ use office_events::{Installation, Refusal};
 use run_http::{SiteLine, write_site_reply};
 use std::alloc::{AllocError, Global};
 
-// Returns the entry for an accounting register in `/site`, with the latest of its meters in all
-// database files. `earlier` are its meters in the earlier files.
+// Returns the entry for an accounting register (a named energy counter) in the HTTP response of
+// `/site`, with the register's latest meter in all database files. `earlier` has the register's
+// meters in the earlier files.
 fn line_after(earlier: &[Installation], row: &SiteRow) -> SiteLine
     ensures { result ≡ site.line_after earlier.now row.now }
 {
@@ -31,8 +32,8 @@ fn line_after(earlier: &[Installation], row: &SiteRow) -> SiteLine
     }
 }
 
-// Returns the entries for accounting registers in `/site`, each with the latest of its meters in
-// all database files (earlier and current).
+// Returns the entries for accounting registers (named energy counters) in the HTTP response of
+// `/site`, each with the register's latest meter in all database files (earlier and current).
 fn lines_over(
     alloc: Global,
     earlier: &[EarlierRegister],
@@ -48,8 +49,8 @@ fn lines_over(
     Ok(lines)
 }
 
-// Returns the entries for all accounting registers in `/site`, or the reason why the program
-// refused the query.
+// Returns the entries for all accounting registers (named energy counters) in the HTTP response of
+// `/site`, or the refusal if the program refused the query.
 fn current_part(
     alloc: Global,
     earlier: &[EarlierRegister],
@@ -66,8 +67,8 @@ fn current_part(
     }
 }
 
-// Writes the response with the entries for the accounting registers, or an error response if the
-// program refused the query.
+// Writes the response of `/site` with the entries for the accounting registers (named energy
+// counters), or an error response if the program refused the query.
 fn append_answer(
     alloc: Global,
     text: &mut Vec<u8>,
@@ -82,9 +83,9 @@ fn append_answer(
     write_site_reply(alloc, text, moment, &reported)
 }
 
-/// Appends the response of `/site`: each accounting register with the latest of its meters in all
-/// database files (earlier and current). `moment` is in seconds since 1970-01-01 UTC. If memory
-/// runs out, a part of the response is appended.
+/// Appends the response of `/site`: each accounting register (a named energy counter) with its
+/// latest meter in all database files (earlier and current). `moment` is in seconds since
+/// 1970-01-01 UTC. If memory runs out, a part of the response is appended.
 pub(crate) fn reply_site_over<B: Books>(
     alloc: Global,
     text: &mut Vec<u8>,

@@ -15,8 +15,8 @@ pub(crate) fn is_ready(connection: &Option<Client>, may_reply: bool) -> bool {
 }
 
 /// Returns whether a connection is served within the remaining limits of this iteration of the main
-/// loop. If a limit is used up, new responses and further rows wait. A chunk that is being sent
-/// always continues.
+/// loop. If a limit is used up, new responses and further rows of started responses wait. A chunk
+/// that is being sent always continues.
 pub(crate) fn is_attended(connection: &Option<Client>, share: TurnShare) -> bool {
     match connection {
         Some(client) => {

@@ -1,5 +1,6 @@
--- Proofs about writing records one after another, and about the transaction that writes the
--- records.
+-- Proofs that writing records one by one satisfies the contract for writing all of them
+-- (`RecordsAll`). The transaction that writes them satisfies its contract also if it cannot begin,
+-- or if a write or the commit fails.
 use Rattle.std.proofs.Common.{◌≡◌, ◌≢◌, ◌==◌, Bool, true, false, ℕ, ◌+◌, ◌<◌, List, [], ◌∷◌, ◌++◌, Ok, Err, Result, IsErrAnd, take, length, get_or, sym, ap, subst, ◌∙◌}
 use Rattle.std.proofs.lemmas.List.{take_more}
 use Rattle.sqlite.specs.Store.{Ghosts}
@@ -19,7 +20,8 @@ use Rattle.office_store.proofs.Following.{none_recorded, one_recorded}
 pub begun : (a : State) → Goes {X = Unit {0}} {E = RowFault} a a (Ok tt) (RecordsAll [])
 begun a = going.nothing_done a tt (RecordsAll []) none_recorded
 
--- If one more record is written, the list of written records gets this record at its end.
+-- If one more record is written in a transaction, the list of written records has this record at
+-- its end.
 pub came : (fs : List Fact) (i : ℕ) (f : Fact) (a b c : State) → i < length fs → f ≡ get_or fs i f → Goes {X = Unit {0}} {E = RowFault} a b (Ok tt) (RecordsAll (take i fs))
     → Goes {X = Unit {0}} {E = RowFault} b c (Ok tt) (Records f) → Goes {X = Unit {0}} {E = RowFault} a c (Ok tt) (RecordsAll (take (i + 1) fs))
 came fs i f a b c lt is one two =
@@ -27,8 +29,8 @@ came fs i f a b c lt is one two =
     subst (λ (l : List Fact). Goes {X = Unit {0}} {E = RowFault} a c (Ok tt) (RecordsAll l)) (sym more)
     (going.goes_then a b c tt (Ok tt) (RecordsAll (take i fs)) (Records f) (RecordsAll (take i fs ++ f ∷ [])) one two (λ content mid after all here. one_recorded (take i fs) f content mid after all here))
 
--- The contract `Commits` of a failed transaction does not depend on the error. If it holds for a
--- failed transaction, it also holds if the transaction returns another error.
+-- `Commits` is the contract of a complete transaction. If it holds for a transaction that failed
+-- with one error, it also holds if the transaction returns another error.
 pub commit_failed : {X Y D : Type 0} (T : RowFault → Type 0) (a b : State) (e : D) (r : Result Y RowFault) (Makes : Content → Content → Type 0) → Commits {X = X} a b (Err e) Makes → IsErrAnd r T → Commits a b r Makes
 commit_failed T a b e (Ok y) Makes one is = absurd is
 commit_failed T a b e (Err d) Makes one is = record { ok = λ clean content has. tt; err = one.err; survives = one.survives }

@@ -1,5 +1,5 @@
--- Proofs about a meter's rows of `intervals` (energy by quarter hour) after a false reading was
--- voided (cancelled). Voiding subtracts and adds energy.
+-- Proofs that, after a false reading was voided (cancelled), a meter's rows of `intervals` (energy
+-- by quarter hour) encode the quarter hours with the changed energies.
 use Rattle.std.proofs.Common.{◌≡◌, ℕ, ◌-◌, ◌≤◌, ◌<◌, ◌==◌, ◌&&◌, not, Bool, true, false, cond, inl, inr, List, [], ◌∷◌, ◌++◌, map, filter, bytes_eq, nat_le, nat_lt, refl, sym, ap, subst, ◌∙◌, arith, eqb-true, IsPermutation}
 use Rattle.std.specs.List.{list_any, AllByRecursion}
 use Rattle.std.proofs.lemmas.Bool.{cases_Bool, cond-true, cond-false, and_parts}
@@ -64,8 +64,8 @@ pub starts_below_without : (bound : ℕ) (shares rows : List Share) → AllByRec
 starts_below_without bound [] rows h = h
 starts_below_without bound (share ∷ shares) rows h = starts_below_without bound shares (journal.without_share share rows) (starts_below_less bound share rows h)
 
--- If all quarter hours in a list start before a bound, they still do after energy is added in a
--- quarter hour before the bound.
+-- If all quarter hours in a list start before a bound, they all still start before the bound after
+-- energy is added in a quarter hour before the bound.
 below_with : (bound : ℕ) (share : Share) (rows : List Share) → share.start < bound → AllByRecursion (λ (row : Share). row.start < bound) rows → AllByRecursion (λ (row : Share). row.start < bound) (journal.with_share share rows)
 below_with bound share [] low h = (low, tt)
 below_with bound share (row ∷ rows) low h = elim (cases_Bool (row.start == share.start)) [
@@ -95,7 +95,9 @@ pub several_therein : (one two rows : List Share) → AreTherein (one ++ two) ro
 several_therein [] two rows h = (tt, h)
 several_therein (share ∷ one) two rows h = let rest = several_therein one two (journal.without_share share rows) h.1 in ((h.0, rest.0), rest.1)
 
--- Lemmas on subtracting and adding energy in a meter's rows of the table `intervals`.
+-- Suppose that a meter's rows of the table `intervals` encode a list of quarter hours, each with
+-- its start and its energy. Lemmas: if energy is subtracted from these rows or added to them, they
+-- encode the list with this energy subtracted or added.
 
 module _ (meter : List ℕ) where
   at_start : (start : ℕ) (share : Share) → is_at meter start (interval_of meter share) ≡ has_start start share
@@ -135,8 +137,8 @@ module _ (meter : List ℕ) where
   taken [] rows shares are = are
   taken (share ∷ outs) rows shares are = taken outs (without_share meter share rows) (journal.without_share share shares) (taken_one share rows shares are)
 
-  -- If a meter's quarter hour in the records has at least a given energy, its row of `intervals`
-  -- also has at least this energy.
+  -- If a meter's quarter hour in the store's records has at least a given energy, its row of
+  -- `intervals` also has at least this energy.
   each_has : (share : Share) (shares : List Share) → AllByRecursion (λ (row : Share). row.start ≡ share.start → share.mwh ≤ row.mwh) shares → AllByRecursion IsSmall shares
       → AllByRecursion (HasShare meter share) (map (interval_of meter) shares)
   each_has share [] has small = tt
@@ -155,8 +157,9 @@ module _ (meter : List ℕ) where
     have outs (without_share meter share rows) (journal.without_share share shares) (taken_one share rows shares are) therein.1 (small_less share shares small),
   )
 
-  -- Lemmas on the rows of `intervals` that are deleted when a meter's last reading is voided
-  -- (cancelled).
+  -- Lemmas for the void (cancellation) of a meter's last reading: if the meter's rows of
+  -- `intervals` that start at or after the time `from` are deleted, exactly its earlier rows
+  -- remain.
 
   module _ (from : ℕ) where
     abbrev early : Interval → Bool
@@ -228,8 +231,8 @@ module _ (meter : List ℕ) where
     others_dropped from [] = refl
     others_dropped from (i ∷ rows) = kept_step (is_of meter i) (nat_le from (start_of i)) (is_of other i) i (without_where (starts_from meter from) rows) rows refl refl (others_dropped from rows)
 
--- Lemmas on the combined effect of all changes to `intervals` when a meter's reading is voided
--- (cancelled).
+-- Lemmas: all changes to `intervals` that voiding (cancelling) a meter's reading makes give the
+-- meter the rows that its entries without this reading require. They change no other meter's rows.
 
 module _ (meter : List ℕ) (A B C : List Share) (from : ℕ) (rows : List Interval) where
   abbrev pub less_rows : List Interval

@@ -17,14 +17,14 @@ use Rattle.office_store.specs.Bookings.MeterState.{IsStanding}
 use Rattle.office_store.specs.Bookings.Places.{Answered}
 use Rattle.office_store.specs.Bookings.Surroundings.{HasEntry, StandsBefore, StandsAfter, FindsEntry, FindsBefore, FindsAfter, AreNear, OpenedAt, IsAround}
 
--- If a query changes nothing, every property that the tables have after the query also held before
+-- If a query changes nothing, every property that the tables have after the query also holds before
 -- the query.
 pub earlier : (P : Content → Type 0) (content after : Content) → after ≡ content → P after → P content
 earlier P content after same holds = subst P same holds
 
 module _ (meter : List ℕ) where
-  -- True if a query changed nothing, and its answer is the meter's entry at an index. The answer
-  -- None means that the meter has no entry there.
+  -- True if a query changed nothing, and its answer is the meter's entry at the index `place`. The
+  -- answer None means that the meter has no entry at this index.
   abbrev pub Asks : (place : ℕ) → Option EntryRow → Content → Content → Type 0
   Asks place found = Reported entries entry_columns (IsFound (is_entry meter place) IsRow) found
 
@@ -34,8 +34,9 @@ module _ (meter : List ℕ) where
       reported_less {D = RowFault} a b found entry (Asks place found) (FindsEntry meter place entry)
       (λ content after (reported : Asks place found content after). record { same = reported.same; there = λ rows has. subst (λ (f : Option EntryRow). IsFound (is_entry meter place) IsRow rows f) is (reported.answers rows has) }) goes
 
-  -- Queries for the last index before `place` whose entry is not voided (cancelled), and then for
-  -- the entry at this index, together find this entry.
+  -- One query of the table `voids` finds the last index before `place` (an index of a meter's
+  -- entries) whose entry is not voided (cancelled). A second query reads the entry at this index.
+  -- Together the two queries find this entry.
   pub found_before : (place at : ℕ) (a b c : State) (r : Result EntryRow RowFault) → Goes {X = ℕ} {E = RowFault} a b (Ok at) (Reported voids voided_columns (IsBefore meter place) at)
       → Goes b c r (Answered r (FindsEntry meter at)) → Goes a c r (Answered r (FindsBefore meter place))
   found_before place at a b c (Err e) one two = then_failed a b c at e e (Reported voids voided_columns (IsBefore meter place) at) (Answered (Err e) (FindsEntry meter at)) (Answered (Err e) (FindsBefore meter place)) one two
@@ -80,9 +81,9 @@ module _ (meter : List ℕ) where
   standing_later : (standing : Standing) (content mid after : Content) → after ≡ mid → IsStanding meter standing content mid → IsStanding meter standing content after
   standing_later standing content mid after same is = record { same = same ∙ is.same; following = is.following; last = is.last; range = is.range }
 
-  -- Suppose that queries find a meter's state, the time of its first entry, and an entry with its
-  -- nearest valid entries. Together the answers are all data that voiding (cancelling) this entry
-  -- needs.
+  -- Suppose that queries find a meter's state, the time of its first entry, and an entry with the
+  -- nearest entries that are not voided. Together the answers are all data that voiding
+  -- (cancelling) this entry needs.
   pub around : (place : ℕ) (found : Surroundings) (before : Content) (mid : Content) (late : Content) (after : Content) → IsStanding meter found.standing before mid → OpenedAt meter found.opened mid late
       → AreNear meter place found.near late after → IsAround meter place found before after
   around place found before mid late after standing opened near = record {

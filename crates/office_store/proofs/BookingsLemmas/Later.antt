@@ -1,5 +1,5 @@
--- Proofs that the entry after a voided (cancelled) entry is not later than the meter's last entry
--- that is not voided.
+-- Proofs that the entry that follows a voided (cancelled) entry is not later than the meter's last
+-- entry that is not voided.
 use Rattle.std.proofs.Common.{◌≡◌, ◌≤◌, ◌<◌, ℕ, ◌==◌, Bool, true, false, cond, inl, inr, List, [], ◌∷◌, Option, Some, None, option_map, refl, sym, ap, subst, ◌∙◌, arith}
 use Rattle.std.specs.Option.{option_or}
 use Rattle.std.specs.List.{AllByRecursion, Contains}
@@ -27,8 +27,8 @@ module _ (range : ℕ) (opening : Last) where
   abbrev at_end : List EntryRow → ℕ
   at_end rows = (last_of opening (entries_in rows)).at
 
-  -- If each entry in a meter's history may follow the entry before it, the same holds for the
-  -- history without its latest row.
+  -- If the rules for meter entries accept each entry in a meter's history after the entry before
+  -- it, they also accept the entries of the history without its latest row.
   follow_tail : (row : EntryRow) (rows : List EntryRow) (stands : Bool) → row.stands ≡ stands → AllFollow range opening (entries_in (row ∷ rows)) → AllFollow range opening (entries_in rows)
   follow_tail row rows true is h = (subst (AllFollow range opening) (entries_standing row rows is) h).1
   follow_tail row rows false is h = subst (AllFollow range opening) (entries_struck row rows is) h
@@ -45,8 +45,8 @@ module _ (range : ℕ) (opening : Last) where
   begins_first (row ∷ rows) h =
       let rest = begins_first rows (follow_tail row rows row.stands refl h) in let more = goes_on row rows row.stands refl h in omega (arith, rest, more)
 
-  -- True if an entry is later than the meter's opening (its first entry), and not later than the
-  -- meter's last valid entry (not voided).
+  -- True if the entry `next` is later than the meter's opening (its first entry), and not later
+  -- than the meter's last entry that is not voided.
   pub record LiesBetween (next : EntryRow) (rows : List EntryRow) : Type 0 where
     pub later : opening.at < moment_of next.entry
     pub earlier : moment_of next.entry ≤ at_end rows

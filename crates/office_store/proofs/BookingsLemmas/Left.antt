@@ -1,4 +1,5 @@
--- Proofs about the tables after a meter entry was voided (cancelled as false).
+-- Proofs that after a meter entry was voided (cancelled as false), the meter's rows in the SQL
+-- tables encode the store's records, which include the void.
 use Rattle.std.proofs.Common.{◌≡◌, ◌≢◌, ℕ, ◌+◌, ◌≤◌, ◌<◌, ◌==◌, ◌&&◌, Bool, true, false, cond, inl, inr, List, [], ◌∷◌, ◌++◌, map, filter, Option, Some, None, option_map, bytes_eq, refl, sym, ap, ap₂, subst, ◌∙◌, IsPermutation, arith}
 use Rattle.std.specs.Prelude.{nat_lt, is_some, is_none}
 use Rattle.std.specs.List.{AllByRecursion}
@@ -68,7 +69,8 @@ use Rattle.office_store.proofs.BookingsLemmas.Later.{next_lies, shares_begin}
 use Rattle.office_store.proofs.BookingsLemmas.Rolling as rolling
 
 module _ (f : Fact) (facts : List Fact) (meter : List ℕ) (same_found : (m : List ℕ) → opening_of (f ∷ facts) m ≡ opening_of facts m) (spares : SparesOthers f facts meter) where
-  -- Lemmas on the rows of `entries` after a meter entry was voided (cancelled).
+  -- Lemmas: voiding (cancelling) a meter entry changes the rows of `entries` so that they encode
+  -- the store's records with the void.
   module _ (o : Opening) (there : opening_of facts meter ≡ Some o) where
     own_entries : (g : List Fact) → opening_of g meter ≡ Some o → entries_of g meter ≡ entered_rows o (rows_of g o)
     own_entries g found = ap (entries_at g) found
@@ -137,8 +139,8 @@ map_same : {X : Type 0} (xs : List X) → map (λ x. x) xs ≡ xs
 map_same [] = refl
 map_same (x ∷ xs) = ap (λ l. x ∷ l) (map_same xs)
 
--- Changes the row of an entry: if the entry is the meter's entry at index `place`, the row gets a
--- new number of counter rollovers.
+-- Changes a row of `entries`: if it is the row of the meter's entry at index `place`, it gets the
+-- number of counter rollovers `rolls`.
 abbrev edited : (meter : List ℕ) → (place rolls : ℕ) → Entered → Entered
 edited meter place rolls e = cond (is_entry meter place e) (with_rollovers rolls e) e
 
@@ -150,16 +152,16 @@ abbrev pub next_put : Option Rejoined → List Share
 next_put None = []
 next_put (Some joined) = shares_of joined.put
 
--- True if the entry after a voided (cancelled) entry gets the number of counter rollovers since the
--- entry before the voided entry. None means that no entry follows.
+-- True if a void gives the entry after the voided (cancelled) entry the number of counter rollovers
+-- since the entry before the voided entry. The value None means that no entry follows.
 abbrev pub HasRolls : (opening : Last) → Around → Option Rejoined → Type 0
 HasRolls opening around None = around.next ≡ None
 HasRolls opening around (Some joined) =
     (next : EntryRow) × (around.next ≡ Some next)
     × (joined.rollover ≡ record { place = next.place; rolls = rolls_of (with_rolls (last_before opening around) next.entry) })
 
--- True if a correction (the changes that voiding a meter entry makes) has exactly the changes that
--- the records require.
+-- True if `made`, the changes that voiding a meter entry makes to the tables, are exactly those
+-- with which the tables encode the store's records with the void.
 pub record IsLeft (facts : List Fact) (o : Opening) (place : ℕ) (made : Correction) : Type 0 where
   pub around : Around
   pub there : row_at place (rows_of facts o) ≡ Some around
@@ -173,8 +175,8 @@ pub record IsLeft (facts : List Fact) (o : Opening) (place : ℕ) (made : Correc
   pub last : made.last ≡ stands_at (cond (is_none made.next) (last_before (opened o) around) (installation_of facts o).last) total
   pub from : made.from ≡ gone_from o.at made.last.moment
 
--- True if the energy that voiding (cancelling) an entry adds may be added to `intervals`. No row of
--- `intervals` may then have more energy than `greatest_total`, the fixed limit on a meter's total.
+-- True if the energy that voiding (cancelling) an entry adds may be added to `intervals`: no row of
+-- `intervals` then has more energy than `greatest_total`, the fixed limit on a meter's total.
 abbrev pub may_put : (meter : List ℕ) → Option Rejoined → List Interval → Type 0
 may_put meter None is = Unit {0}
 may_put meter (Some joined) is = AreSmall (with_shares meter (shares_of joined.put) is)
@@ -273,7 +275,8 @@ module _ (v : VoidedEntry) (facts : List Fact) (lawful : AreLawful (fact.Void v 
   voided_so : IsVoided (installed o) lines v.place around
   voided_so = change (installed o) lines v.place around begun (fits, fitting) left.there
 
-  -- Lemmas on a meter's state and energy after one of its entries was voided (cancelled).
+  -- Lemmas: after a meter's entry was voided (cancelled), the stored last entry and total energy of
+  -- the meter are those that follow from the store's records.
 
   stands_by : (next : Option Rejoined) (l : Last) → HasRolls (opened o) around next → cond (is_none next) last l ≡ cond (is_some around.next) l last
   stands_by None l none = sym (ap (λ (n : Option EntryRow). cond (is_some n) l last) none)
@@ -298,7 +301,8 @@ module _ (v : VoidedEntry) (facts : List Fact) (lawful : AreLawful (fact.Void v 
       ap (λ ls. installed_as place (installation_by o ls)) line_is
       ∙ ap (λ (l : LastRow). settled l false (installed_row facts place o)) (sym last_is)
 
-  -- Lemmas on a meter's rows of `entries` after one of its entries was voided (cancelled).
+  -- Lemmas: after a meter's entry was voided (cancelled), the meter's rows of `entries` encode its
+  -- history with the void.
 
   numbered : AreNumbered rows
   numbered = (stand (installed o) lines begun fitting).places
@@ -346,8 +350,8 @@ module _ (v : VoidedEntry) (facts : List Fact) (lawful : AreLawful (fact.Void v 
       entry_rolled f facts v.meter same_found spares o there joined.rollover.place joined.rollover.rolls content after
       (ap (entered_rows o) rows_are ∙ (ap (λ (n : Option EntryRow). entered_rows o (map (changed_by v.place n last) rows)) next_is ∙ (rolled_rows ∙ same_edit))) e a
 
-  -- Lemmas on a meter's rows of `intervals` (energy by quarter hour) after one of its entries was
-  -- voided (cancelled).
+  -- Lemmas: after a meter's entry was voided (cancelled), the meter's rows of `intervals` (energy
+  -- by quarter hour) encode its energy in the store's records.
   module _ (kept : MetersAreKept) (ranges : InstallationsAreInRange) (lying : RowsLieWithin) (law : SharesAddUp) where
     abbrev old : List Share
     old = rows_of_opening facts o

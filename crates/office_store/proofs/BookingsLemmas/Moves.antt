@@ -38,8 +38,8 @@ use Rattle.office_store.specs.declared.bookings.meter_entries.Advance.{Advance}
 use Rattle.office_store.specs.Bookings.Places.{IsSeenIn, StandsThere}
 use Rattle.office_store.specs.Bookings.MeterState.{IsStanding, Advances, EntersEntry, Settles, counter_of, stands_at, settled}
 
--- If three queries in sequence find the parts of a meter's state, together they find the complete
--- state and change nothing.
+-- If three queries in sequence find the parts of a meter's state, the three queries together find
+-- the complete state and change nothing.
 pub stands : (meter : List ℕ) (it : Standing) (a b c d : Content) → IsNext entry_tree.entries entry_columns (is_of meter) entry_place it.place a b
     → IsSeenIn meter_tree.installations installed_columns (is_meter meter) StandsThere it.last b c → IsSeenIn meter_tree.ranges ranged_columns (is_range_of meter) HasRange it.range c d
     → IsStanding meter it a d
@@ -50,7 +50,8 @@ stands meter it a b c d p q r = record {
   range = λ rows has. r.seen rows (subst (HasRows meter_tree.ranges ranged_columns rows) (sym (q.same ∙ p.same)) has);
 }
 
--- Lemmas on updating a meter's last entry and total energy in `installations`.
+-- Lemmas: two updates of a meter's row in `installations`, one after the other, have the effect of
+-- one update.
 
 module _ {X : Type 0} (p : X → Bool) (f h : X → X) (keeps : (x : X) → p (f x) ≡ p x) where
   twice_step : (b : Bool) (x : X) → p x ≡ b → cond (p (let y : X = cond b (f x) x in y)) (h (cond b (f x) x)) (cond b (f x) x) ≡ cond b (h (f x)) x
@@ -69,7 +70,7 @@ module _ {X : Type 0} (p : X → Bool) (f h : X → X) (keeps : (x : X) → p (f
   }
 
 -- If an entry closes a meter, two updates of the meter's row set its last entry and then mark the
--- meter as closed. Together they have the effect `Settles` of one update.
+-- meter as closed. Together they satisfy `Settles`, the contract of a single update that does both.
 pub settles_closed : (meter : List ℕ) (last : LastRow) (content mid after : Content) → Edits meter_tree.installations installed_columns (changed_where (is_meter meter) (moved last)) content mid
     → Edits meter_tree.installations installed_columns (changed_where (is_meter meter) ended) mid after → Settles meter last true content after
 settles_closed meter last content mid after one two = edited_twice (is_meter meter) (moved last) ended (λ i. refl) meter_tree.installations installed_columns content mid after one two

@@ -1,4 +1,5 @@
--- Proofs that the answer of a query for the last row determines the index of the next row.
+-- Proofs that the next row's index is one more than the index that a query for the last row
+-- returns, or 1 if no row exists.
 use Rattle.std.proofs.Common.{◌≡◌, ℕ, ◌+◌, pos, Bool, true, false, cond, ◌&&◌, List, [], ◌∷◌, map, take, Option, Some, None, Ok, Err, Result, refl, sym, ap, ◌∙◌}
 use Rattle.std.specs.Prelude.{nat_le}
 use Rattle.sqlite.specs.declared.types.Value.TheVariants.{Int}

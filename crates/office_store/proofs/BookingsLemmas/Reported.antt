@@ -1,4 +1,5 @@
--- Proofs that voiding (cancelling) a meter entry changes the tables as the records require.
+-- Proofs that voiding (cancelling) a meter entry changes the tables so that they encode the store's
+-- records with the void.
 use Rattle.std.proofs.Common.{◌≡◌, ℕ, ℤ, ◌+◌, ◌≤◌, ◌&&◌, true, false, cond, inl, inr, ◌⊎◌, List, [], ◌∷◌, ◌++◌, map, filter, Option, Some, None, option_map, refl, sym, ap, ap₂, subst, ◌∙◌, IsPermutation, arith, append-nil}
 use Rattle.std.specs.Prelude.{is_none}
 use Rattle.std.specs.List.{AllByRecursion}
@@ -57,7 +58,7 @@ use Rattle.office_store.proofs.MeteringLemmas.Around.{AtRow, IsNextRow, AreStruc
 use Rattle.office_store.proofs.BookingsLemmas.Left.{HasRolls, IsLeft, next_out, next_put}
 use Rattle.office_store.proofs.BookingsLemmas.Rolling as rolling
 
--- Lemmas on a reading of a meter and its row of `entries`.
+-- Lemmas: the row of `entries` that stores a meter's reading has the data of this reading.
 
 read_back : (k : EntryKind) (e : Entry) → is_read k e ≡ true → entry.Step (moment_of e) (raw_of e) (rolls_of e) ≡ e
 read_back k e is = by_read (λ k e. entry.Step (moment_of e) (raw_of e) (rolls_of e) ≡ e) (λ at raw rolls. refl) k e is
@@ -86,8 +87,9 @@ one_shares s = append-nil (shares_of s)
 two_shares : (s t : Step) → all_shares (s ∷ t ∷ []) ≡ shares_of s ++ shares_of t
 two_shares s t = ap (λ (l : List Share). shares_of s ++ l) (append-nil (shares_of t))
 
--- True if the next entry's new counter rollovers, and the energies that voiding (cancelling) an
--- entry removes and adds, agree with the records.
+-- A void (the cancellation of an entry) changes the step to the next entry. True if the next
+-- entry's new rollovers, and the subtracted and added energies, equal those computed from the
+-- records with the void.
 record NextLeft (o : Opening) (around : Around) (out : Step) (next : Option Rejoined) : Type 0 where
   rolls : HasRolls (opened o) around next
   outs : all_shares (steps_out (installed o) around) ≡ next_out next ++ shares_of out
@@ -134,7 +136,8 @@ module _ (o : Opening) (around : Around) (out : Step) where
         come = ap energy_in write_is ∙ (one_energy come ∙ ap (λ (s : Step). s.mwh) (sym puts));
       }
 
--- Lemmas on all changes that voiding (cancelling) a meter entry makes to `intervals`.
+-- Lemmas: all changes that voiding (cancelling) a meter entry makes to `intervals` give the energy
+-- by quarter hour that follows from the store's records.
 
 module _ (v : VoidedEntry) (facts : List Fact) (lawful : AreLawful (fact.Void v ∷ facts)) (o : Opening) (there : opening_of facts v.meter ≡ Some o)
     (stand : RowsStand) (change : VoidsChangeTwoRows) (late : 2 ≤ v.place) (zone : List ℕ) (content after_asking : Content) (a : AreOf zone facts content)
@@ -219,7 +222,7 @@ module _ (v : VoidedEntry) (facts : List Fact) (lawful : AreLawful (fact.Void v 
   voided_is = ap counter_after row.is ∙ stands_after_row o around.row around.before (read_shape around.row.kind around.row.entry read) stands
 
   -- The last entry and the total energy in the meter's row of `installations` equal the meter's
-  -- last entry and energy in the records.
+  -- last entry and energy in the store's records.
   last_is : found.standing.last ≡ last_row (installation_of facts o)
   last_is = let it = stands_found facts lawful.1 v.meter o there StandsThere found.standing.last (at.standing.last (placed (installed_row facts) (openings_in facts)) a.installations) in it.1 ∙ it.2
 

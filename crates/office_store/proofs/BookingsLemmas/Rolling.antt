@@ -1,4 +1,5 @@
--- Proofs about the rows of a meter's entries after one entry was voided (cancelled).
+-- Proofs: when an entry of a meter is voided (cancelled), its row is marked as voided, and the
+-- rollovers in the next valid row may change. No other row of the meter's entries changes.
 use Rattle.std.proofs.Common.{◌≡◌, ℕ, ℤ, ◌+◌, ◌≤◌, ◌<◌, ◌==◌, ◌&&◌, Bool, true, false, cond, inl, inr, List, [], ◌∷◌, map, length, Option, Some, None, bytes_eq, option_map, refl, sym, ap, ap₂, subst, ◌∙◌, arith, eq-eqb, eqb-true, ne_eqb}
 use Rattle.std.specs.List.{AllByRecursion}
 use Rattle.std.specs.Option.{option_or}
@@ -36,8 +37,9 @@ stands_if : (b : Bool) (row next : EntryRow) → row.stands ≡ b → (let o : O
 stands_if true row next is h = (is, same_Some row next h)
 stands_if false row next is h = absurd (let e = h in cc)
 
--- Suppose that the next entry that is not voided (cancelled) has the properties of `IsNextThere` in
--- a meter's history. It also has them after a row is added to the history.
+-- Suppose that `next` is the next entry in a meter's history after index `place` that is not voided
+-- (cancelled), and no other row has its index (`IsNextThere`). This still holds after a row is
+-- added to the history.
 past : (place : ℕ) (row : EntryRow) (rows : List EntryRow) (o : Option EntryRow) (next : EntryRow) → AreNumbered (row ∷ rows) → place ≤ length rows + 1
     → ((n : EntryRow) → o ≡ Some n → IsNextThere place n rows) → option_or o (if_standing row) ≡ Some next → IsNextThere place next (row ∷ rows)
 past place row rows (Some m) next numbered low before whole =
@@ -81,7 +83,8 @@ next_there place (row ∷ rows) around next numbered h is = elim (cases_Bool (ro
       (ap (λ (a : Around). a.next) passing ∙ is)
 ]
 
--- Lemmas on the counter's scale factor after a list of meter entries.
+-- Lemmas: the counter's scale factor after a list of meter entries stays the same if entries are
+-- changed that do not set the scale factor.
 
 sf_kept : (l m : Last) (e : Entry) → l.sf ≡ m.sf → (after l e).sf ≡ (after m e).sf
 sf_kept l m (entry.Step at raw rolls) is = is
@@ -99,8 +102,8 @@ sf_read l kind.Closing (entry.Change at before new sf) is = absurd (cc)
 sf_read l kind.Reset (entry.Change at before new sf) is = absurd (cc)
 sf_read l kind.Rescale (entry.Change at before new sf) is = absurd (cc)
 
--- If a row in a meter's history has the index of the entry to void (cancel), voiding marks this row
--- as voided.
+-- If a row in a meter's history has the index of the entry that is to be voided (cancelled), the
+-- void marks this row as voided.
 at_void : (place : ℕ) (next : Option EntryRow) (last : Last) (row : EntryRow) → (row.place == place) ≡ true → changed_by place next last row ≡ struck row
 at_void place next last row at = cond-true (row.place == place) (struck row) (cond (is_next next row) (rolled last row) row) at
 
@@ -111,8 +114,8 @@ module _ (o : Opening) where
   abbrev stood : List EntryRow → Last
   stood rows = last_of (opened o) (entries_in rows)
 
-  -- If an entry of a meter is replaced by an entry with the same scale factor, the scale factor
-  -- after all entries stays the same.
+  -- If an entry of a meter is replaced by an entry with the same effect on the scale factor, the
+  -- scale factor after all entries stays the same.
   same_scale : (b : Bool) (row now : EntryRow) (rows rest : List EntryRow) → row.stands ≡ b → now.stands ≡ b → ((l : Last) → (after l now.entry).sf ≡ (after l row.entry).sf)
       → scale_after o rest ≡ scale_after o rows → scale_after o (now ∷ rest) ≡ scale_after o (row ∷ rows)
   same_scale true row now rows rest was is keeps more =
@@ -157,7 +160,9 @@ module _ (o : Opening) where
   same_scales place next last (row ∷ rows) h =
       changed_scale (row.place == place) place next last row rows (map (changed_by place next last) rows) refl h.0 (same_scales place next last rows h.1)
 
-  -- Lemmas on the rows of `entries` after a meter entry was voided (cancelled).
+  -- Lemmas on the table `entries` after a meter entry was voided (cancelled). Only the row of the
+  -- next entry can change, and each row changes as the corresponding row of the meter's history
+  -- does.
 
   -- Lemmas that, when an entry is voided (cancelled), each row of `entries` changes in the same way
   -- as the corresponding row of the meter's history.

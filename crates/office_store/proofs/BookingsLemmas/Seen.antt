@@ -14,7 +14,7 @@ use Rattle.office_store.specs.Going.{Goes, Reported}
 use Rattle.office_store.proofs.GoingLemmas.{of_answer, reported_less}
 use Rattle.office_store.specs.Bookings.Places.{Answered, IsSeenIn}
 
--- If a call runs one query and then returns an error, the call commits nothing.
+-- If a call makes one query and then returns an error, the call commits nothing.
 pub asked_refused : {S A D Y E : Type 0} (g : Ghosts S) (old new : Held S) (r : Result A D) (e : E) (Makes : Content → Content → Type 0) → AsksInside g old new r
     → Goes {X = Y} (state g old) (state g new) (Err e) Makes
 asked_refused g old new r e Makes asks = record { kept = λ clean inside content has. asks.kept clean content has; makes = λ clean inside content has. tt; survives = asks.survives }
@@ -30,7 +30,7 @@ module _ {X : Type 0} (passes : X → Bool) (shown : X → Row) where
   first_shown row items (x ∷ found) is e = (x, refl, (let f : Some row ≡ Some (shown x) = sym is ∙ ap (λ rs. slice_get rs 0) e in cc))
 
   -- Suppose that a look-up's query returns a row, and the look-up computes its answer from the
-  -- row's value. Then the answer is correct for the stored row with the key.
+  -- row's value. Then this is the answer for the stored row with the key.
   pub seen_reported : {S A B Q : Type 0} (g : Ghosts S) (old new : Held S) (tree : ℕ) (columns : X → Row) (rows : Q) (items : List Row) (row : Row) (a : A) (b : B)
       (IsRead : X → A → Type 0) (IsSound : X → Type 0) (IsSeen : X → B → Type 0) → ((x : X) → IsRead x a → IsSeen x b)
       → AsksInside {X = Q} {E = Error} g old new (Ok rows) → ReportsAnswer g old new tree columns (Ok rows) (λ xs a. ShowsFirst passes AnyOrder shown xs items)
@@ -47,8 +47,8 @@ module _ {X : Type 0} (passes : X → Bool) (shown : X → Row) where
       })
       (of_answer g old new tree columns (λ xs a. ShowsFirst passes AnyOrder shown xs items) rows asks reports)
 
-  -- Suppose that a look-up's query returns a row, and the look-up returns the row's value. Then the
-  -- answer is correct for the stored row with the key.
+  -- Suppose that a look-up's query returns a row, and the look-up returns the row's value. Then
+  -- this is the value of the stored row with the key.
   pub read_reported : {S A Q : Type 0} (g : Ghosts S) (old new : Held S) (tree : ℕ) (columns : X → Row) (rows : Q) (items : List Row) (row : Row) (r : Result A RowFault)
       (IsSeen : X → A → Type 0) (IsSound : X → Type 0)
       → AsksInside {X = Q} {E = Error} g old new (Ok rows) → ReportsAnswer g old new tree columns (Ok rows) (λ xs a. ShowsFirst passes AnyOrder shown xs items)

@@ -1,4 +1,5 @@
--- Proofs about the sequence of database calls that void (cancel) a meter reading.
+-- Proofs that the sequence of database calls that void (cancel) a meter reading changes the tables
+-- as the contract of voiding requires.
 use Rattle.std.proofs.Common.{◌≡◌, ℕ, List, Option, Some, None, Ok, refl, sym, subst}
 use Rattle.sqlite.specs.declared.error.Error.{Error}
 use Rattle.sqlite.specs.State.{State}
@@ -18,7 +19,7 @@ use Rattle.office_store.proofs.BookingsLemmas.Leaving.{completed_alone}
 
 module _ (meter : List ℕ) (next : Option Rejoined) where
   -- If no meter entry follows the voided (cancelled) reading, voiding makes no database call to set
-  -- the next entry's counter rollovers.
+  -- counter rollovers, and satisfies the contract of setting those of the next entry.
   pub none_rolled : (a : State) → next ≡ None → Goes {X = Unit {0}} {E = RowFault} a a (Ok tt) (RollsNext meter next)
   none_rolled a is =
       subst (λ (n : Option Rejoined). Goes {X = Unit {0}} {E = RowFault} a a (Ok tt) (RollsNext meter n)) (sym is)
@@ -30,8 +31,8 @@ module _ (meter : List ℕ) (next : Option Rejoined) where
   pub none_put : (a : State) → next ≡ None → Goes {X = Unit {0}} {E = RowFault} a a (Ok tt) (PutsNext meter next)
   none_put a is = subst (λ (n : Option Rejoined). Goes {X = Unit {0}} {E = RowFault} a a (Ok tt) (PutsNext meter n)) (sym is) (nothing_done a tt (PutsNext meter None) (λ content. refl))
 
-  -- If a meter entry follows the voided (cancelled) reading, voiding makes one database call to set
-  -- the counter rollovers of this next entry.
+  -- If a meter entry follows the voided (cancelled) reading, one database call sets the counter
+  -- rollovers of this next entry, as the contract of voiding requires.
   pub one_rolled : (a b : State) (n : ℕ) (joined : Rejoined) → next ≡ Some joined
       → Steps {X = ℕ} {E = Error} a b (Ok n) (Edits entries entry_columns (changed_where (is_entry meter joined.rollover.place) (rolled joined.rollover.rolls)))
       → Goes {X = Unit {0}} {E = RowFault} a b (Ok tt) (RollsNext meter next)

@@ -25,8 +25,9 @@ module _ {X A : Type 0} (Is : X → A → Type 0) where
   filter_step true p q x a xs vs e f is more = rw (e, f) (is, more)
   filter_step false p q x a xs vs e f is more = rw (e, f) more
 
-  -- If two tests agree on each pair of related elements, two related lists are still related after
-  -- each was filtered by its test.
+  -- Suppose that a relation holds between the elements of two lists at each index, and two tests
+  -- agree on related elements. After each list was filtered by its test, the relation still holds
+  -- at each index.
   pub each_filter : (p : X → Bool) (q : A → Bool) → ((x : X) (a : A) → Is x a → p x ≡ q a) → (xs : List X) (vs : List A) → AreEach Is xs vs → AreEach Is (filter p xs) (filter q vs)
   each_filter p q agree [] [] h = tt
   each_filter p q agree [] (a ∷ vs) h = absurd h
@@ -34,7 +35,7 @@ module _ {X A : Type 0} (Is : X → A → Type 0) where
   each_filter p q agree (x ∷ xs) (a ∷ vs) h = filter_step (p x) p q x a xs vs refl (sym (agree x a h.0)) h.0 (each_filter p q agree xs vs h.1)
 
   -- Suppose that two lists have values of the same rows, and that any two values of one row are in
-  -- the relation `Same`. Then `Same` holds between the values at each index.
+  -- the relation `Same`. Then `Same` holds between the values of the two lists at each index.
   pub each_same : {B : Type 0} (Seen : X → B → Type 0) (Same : A → B → Type 0) → ((x : X) (a : A) (b : B) → Is x a → Seen x b → Same a b)
       → (xs : List X) (vs : List A) (bs : List B) → AreEach Is xs vs → AreEach Seen xs bs → AreEach Same vs bs
   each_same Seen Same same [] [] [] h k = tt

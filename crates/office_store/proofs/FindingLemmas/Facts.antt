@@ -1,5 +1,5 @@
--- Proofs about records that the rules accepted: names and numbers are unique, and the tables have a
--- row for each record.
+-- Proofs about lawful records, of which the store's rules accepted each after the earlier ones.
+-- Names and numbers are unique, and the tables have a row for each record.
 use Rattle.std.proofs.Common.{◌≡◌, ◌≢◌, ℕ, Ok, Err, string_bytes, ◌+◌, ◌≤◌, ◌<◌, ◌==◌, ◌&&◌, Bool, true, false, cond, not, inl, inr, List, [], ◌∷◌, map, filter, reverse, length, find, Option, Some, None, refl, sym, ap, ap₂, subst, ◌∙◌, IsPermutation, arith, eqb}
 use Rattle.std.specs.List.{AllByRecursion, list_any}
 use Rattle.std.specs.Option.{option_map}
@@ -59,8 +59,8 @@ pub few_step : {X : Type 0} (b : Bool) (x : X) (rest : List X) → (b ≡ true �
 few_step true x rest none few = let e = ap length (none refl) in omega (arith, e)
 few_step false x rest none few = few
 
--- If the rules accepted the records, no two accounting registers (named energy counters) have equal
--- names.
+-- If the records are lawful (the store's rules accepted each after the earlier ones), no two
+-- accounting registers (named energy counters) have equal names.
 pub few_registers : (facts : List Fact) (name : List ℕ) → AreLawful facts → length (filter (λ (r : Register). same r.name name) (registers_in facts)) ≤ 1
 few_registers [] name h = omega arith
 few_registers (fact.Device d ∷ facts) name h = few_registers facts name h.1
@@ -78,7 +78,8 @@ few_registers (fact.Poll p ∷ facts) name h = few_registers facts name h.1
 few_registers (fact.Outcome e ∷ facts) name h = few_registers facts name h.1
 few_registers (fact.Reply r ∷ facts) name h = few_registers facts name h.1
 
--- If the rules accepted the records, no poll has more than one outcome.
+-- If the records are lawful (the store's rules accepted each after the earlier ones), no poll has
+-- more than one outcome.
 pub few_ends : (facts : List Fact) (number : ℕ) → AreLawful facts → length (ends_of facts number) ≤ 1
 few_ends [] number h = omega arith
 few_ends (fact.Device d ∷ facts) number h = few_ends facts number h.1
@@ -93,7 +94,8 @@ few_ends (fact.Outcome e ∷ facts) number h =
     few_step (e.poll == number) e (ends_of facts number) (λ is. subst (λ (n : ℕ). ends_of facts n ≡ []) (eqb-true e.poll number is) h.0.0.pending) (few_ends facts number h.1)
 few_ends (fact.Reply r ∷ facts) number h = few_ends facts number h.1
 
--- If the rules accepted the records, the polls are numbered from 1 without gaps.
+-- If the records are lawful (the store's rules accepted each after the earlier ones), the polls are
+-- numbered from 1 without gaps.
 pub numbered : (facts : List Fact) → AreLawful facts → AreNumbered (polls_in facts)
 numbered [] h = tt
 numbered (fact.Device d ∷ facts) h = numbered facts h.1

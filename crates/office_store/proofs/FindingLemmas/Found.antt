@@ -18,8 +18,8 @@ use Rattle.office_store.specs.Finding.Finding.{Finds, ReadsAll}
 use Rattle.office_store.proofs.FindingLemmas.Looking.{holds_on, looks_then, stays}
 
 module _ {S : Type 0} (g : Ghosts S) (old new : Held S) where
-  -- If the answer of a look-up (a query for records) satisfies a statement about the records, it
-  -- also satisfies every weaker statement.
+  -- If the answer of a look-up (a query for records) satisfies a statement about the store's
+  -- records, it also satisfies every weaker statement.
   pub answered : {A B : Type 0} (a : A) (b : B) (P : List Fact → A → Type 0) (Q : List Fact → B → Type 0) (s t : List Fact → Type 0)
       → Finds g old new (Ok a) P s → ((facts : List Fact) → P facts a → Q facts b) → Finds g old new (Ok b) Q t
   answered a b P Q s t one reports = record {
@@ -31,8 +31,8 @@ module _ {S : Type 0} (g : Ghosts S) (old new : Held S) where
   pub become : {A : Type 0} (o a : A) (P : List Fact → A → Type 0) (s : List Fact → Type 0) → o ≡ a → Finds g old new (Ok o) P s → Finds g old new (Ok a) P s
   become o a P s is one = subst (λ x. Finds g old new (Ok x) P s) is one
 
-  -- If a look-up satisfies its contract with one condition for reporting `Damaged`, it also
-  -- satisfies the contract with any weaker condition.
+  -- The contract of a look-up (a query for records) says when it may report `Damaged`. If a look-up
+  -- satisfies the contract, it also satisfies the contract that permits `Damaged` in more cases.
   pub less_reported : {A : Type 0} (r : Result A RowFault) (P : List Fact → A → Type 0) (s t : List Fact → Type 0) → ((facts : List Fact) → t facts → s facts) → Finds g old new r P s → Finds g old new r P t
   less_reported r P s t weaker one = record {
     answer = one.answer;
@@ -52,8 +52,9 @@ module _ {S : Type 0} (g : Ghosts S) (old new : Held S) where
     looks = one.looks;
   }
 
-  -- If a query returns a value that can't be converted because the records are invalid, the
-  -- contract permits the look-up to report the failed conversion.
+  -- A query of a look-up (a function that queries the store) can return a value that can't be
+  -- converted, because a record has a value out of its range. Then the look-up's contract permits
+  -- it to report the failed conversion.
   pub unread : {A B : Type 0} (a : A) (e : RowFault) (r : Result B RowFault) (P : List Fact → A → Type 0) (Q : List Fact → B → Type 0) (s t : List Fact → Type 0)
       → Finds g old new (Ok a) P s → ((facts : List Fact) → P facts a → IsRowFault (t facts) e) → IsErrAnd r (λ d. d ≡ e) → Finds g old new r Q t
   unread a e (Ok b) P Q s t one fair fails = absurd fails
@@ -64,8 +65,8 @@ module _ {S : Type 0} (g : Ghosts S) (old new : Held S) where
     looks = one.looks;
   }
 
-  -- If a query returns rows, and a reader converts each row to a value, the list of these values is
-  -- the answer of the look-up.
+  -- If a query returns rows, and a reader converts each row to a value, the look-up (the query for
+  -- records) may answer with the list of these values.
   pub rows_read : {A T U X : Type 0} (found : U) (rows : List Row) (shown : X → Row) (IsSeen : X → A → Type 0) (IsSound : X → Type 0) (items : T → List A) (r : Result T RowFault)
       (stored : List Fact → List X) (P : List Fact → U → Type 0) (Q : List Fact → T → Type 0) (s t : List Fact → Type 0)
       → Finds g old new (Ok found) P s → ReadsAll rows shown IsSeen IsSound items r → ((facts : List Fact) → P facts found → rows ≡ map shown (stored facts))
@@ -84,13 +85,13 @@ module _ {S : Type 0} (g : Ghosts S) (old new : Held S) where
     looks = one.looks;
   }
 
--- If a look-up runs no query, the database stays unchanged.
+-- If a look-up (a query for records) runs no query on the database, the database stays unchanged.
 pub not_asked : {S A : Type 0} (g : Ghosts S) (old : Held S) (r : Result A RowFault) (P : List Fact → A → Type 0) (s : List Fact → Type 0)
     → ((zone : List ℕ) (facts : List Fact) → IfOk r (P facts)) → ((facts : List Fact) → IfErr r (IsRowFault (s facts))) → Finds g old old r P s
 not_asked g old r P s reports fair = record { answer = λ zone facts holds clean. reports zone facts; fault = λ zone facts holds clean. on_err r (λ f why. row_fault (state g old) (state g old) (s facts) (s facts) f (λ is. is) why) (fair facts); looks = λ zone. stays g zone old }
 
--- If a result satisfies a postcondition, it also satisfies any postcondition that follows from the
--- first.
+-- If a result satisfies a postcondition on `Ok`, it also satisfies any postcondition that follows
+-- from this one.
 both_ok : {B : Type 0} {P Q : B → Type 0} (r : Result B RowFault) → ((b : B) → P b → Q b) → IfOk r P → IfOk r Q
 both_ok (Ok b) f h = f b h
 both_ok (Err e) f h = tt
@@ -108,7 +109,8 @@ finds_then g old mid new a r P Q s t one two = record {
   looks = λ zone. looks_then g zone old mid new (one.looks zone) (two.looks zone);
 }
 
--- If a name is not UTF-8, a look-up of a record by this name returns an error and runs no query.
+-- If a name is not UTF-8, a look-up (a function that queries the store) of a record by this name
+-- returns an error and runs no query.
 pub unnamed : {S A : Type 0} (g : Ghosts S) (old : Held S) (e : RowFault) (r : Result A RowFault) (P : List Fact → A → Type 0) (Named : Type 0) (s : List Fact → Type 0)
     → ((facts : List Fact) → s facts → Named) → (e ≡ Damaged) × (¬ Named) → IsErrAnd r (λ d. d ≡ e) → Finds g old old r P s
 unnamed g old e (Ok a) P Named s named none fails = absurd fails
@@ -118,8 +120,8 @@ unnamed g old e (Err d) P Named s named none fails = record {
   looks = λ zone. stays g zone old;
 }
 
--- If the second of two queries of a look-up fails, the contract permits the look-up to return the
--- error of this query.
+-- If the second of two queries of a look-up (a function that reads records) fails, the look-up's
+-- contract permits it to return the error of this query.
 pub fails_then : {S A B C : Type 0} (g : Ghosts S) (old mid new : Held S) (a : A) (e : RowFault) (r : Result C RowFault) (P : List Fact → A → Type 0) (Q : List Fact → B → Type 0) (R : List Fact → C → Type 0) (s t u : List Fact → Type 0)
     → Finds g old mid (Ok a) P s → Finds g mid new (Err e) Q t → ((facts : List Fact) → P facts a → u facts → t facts) → IsErrAnd r (λ d. d ≡ e) → Finds g old new r R u
 fails_then g old mid new a e (Ok c) P Q R s t u one two sound fails = absurd fails
@@ -135,15 +137,15 @@ fails_then g old mid new a e (Err d) P Q R s t u one two sound fails = record {
 }
 
 -- If a second query uses the answer of a first query, both queries in sequence satisfy the contract
--- of one look-up.
+-- of one look-up (a query for records).
 pub found_then : {S A B : Type 0} (g : Ghosts S) (old mid new : Held S) (a : A) (r : Result B RowFault) (P : List Fact → A → Type 0) (Q R : List Fact → B → Type 0) (s t u : List Fact → Type 0)
     → Finds g old mid (Ok a) P s → Finds g mid new r Q t → ((facts : List Fact) → P facts a → u facts → t facts) → ((facts : List Fact) (b : B) → P facts a → Q facts b → R facts b) → Finds g old new r R u
 found_then g old mid new a (Ok b) P Q R s t u one two sound reports =
     answered g old new b b (λ facts x. P facts a × Q facts x) R t u (finds_then g old mid new a (Ok b) P Q s t one two) (λ facts h. reports facts b h.0 h.1)
 found_then g old mid new a (Err e) P Q R s t u one two sound reports = fails_then g old mid new a e (Err e) P Q R s t u one two sound refl
 
--- If a query returns a value, the look-up returns the converted value, or an error if the value
--- can't be converted.
+-- If a look-up's query returns a value, the look-up returns the converted value, or an error if the
+-- value can't be converted.
 pub made : {S A C : Type 0} (g : Ghosts S) (old new : Held S) (a : A) (r : Result C RowFault) (P : List Fact → A → Type 0) (R : List Fact → C → Type 0) (s u : List Fact → Type 0)
     → Finds g old new (Ok a) P s → ((facts : List Fact) → P facts a → IfOk r (R facts)) → ((facts : List Fact) → P facts a → IfErr r (IsRowFault (u facts))) → Finds g old new r R u
 made g old new a r P R s u one reports fails = record {
@@ -152,8 +154,8 @@ made g old new a r P R s u one reports fails = record {
   looks = one.looks;
 }
 
--- If a look-up reports `Damaged` only because the records are invalid, the contract of the look-up
--- permits this error.
+-- If a look-up (a function that queries the store) reports `Damaged` only because a record has a
+-- value out of its range, the contract of the look-up permits this error.
 pub if_damaged : {C : Type 0} (Sound : Type 0) (r : Result C RowFault) → IfErr r (λ e. (e ≡ Damaged) × (¬ Sound)) → IfErr r (IsRowFault Sound)
 if_damaged Sound (Ok c) h = tt
 if_damaged Sound (Err e) h = subst (IsRowFault Sound) (sym h.0) h.1

@@ -1,4 +1,5 @@
--- Proofs about the greatest of several timestamps.
+-- Proofs about the greatest timestamp of a list: no element has a later timestamp, and the order of
+-- the elements does not matter.
 use Rattle.std.proofs.Common.{◌≡◌, ℕ, ◌+◌, ◌≤◌, max, List, [], ◌∷◌, map, filter, length, Option, Some, None, unwrap_or, refl, sym, ap, ap₂, subst, ◌∙◌, IsPermutation, arith}
 use Rattle.std.specs.List.{AllByRecursion}
 use Rattle.std.proofs.lemmas.List.Sorted.{IsPermutation-sym, All-permutation}

@@ -16,8 +16,8 @@ use Rattle.office_books.specs.Facts.{as_opening, as_entry, as_hold, as_void, as_
 use Rattle.office_store.specs.Finding.Latest.{greatest, latest_entered, latest_voided, latest_held, latest_started, latest_ended, latest_replied}
 use Rattle.office_store.proofs.FindingLemmas.Greatest.{none_past}
 
--- Lemmas that the latest timestamp of each kind of record is at most the latest timestamp of all
--- records.
+-- Lemmas: for each kind of record, the latest timestamp of the records of this kind is at most the
+-- latest timestamp of all records.
 
 module _ {X : Type 0} (pick : Fact → Option X) (moment : X → ℕ) (own : (f : Fact) (x : X) → pick f ≡ Some x → moment x ≡ moment_in f) where
   step : (f : Fact) (facts : List Fact) (o : Option X) → pick f ≡ o → greatest moment (filter_map pick facts) ≤ latest_in facts → greatest moment (cons_option o (filter_map pick facts)) ≤ max (moment_in f) (latest_in facts)

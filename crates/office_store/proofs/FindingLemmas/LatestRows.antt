@@ -1,5 +1,5 @@
--- Proofs that the latest timestamps in the tables equal the latest timestamps of the records that
--- the tables encode.
+-- Proofs that the latest timestamps that queries find in the tables equal the latest timestamps of
+-- the records that the tables encode.
 use Rattle.std.proofs.Common.{◌≡◌, ℕ, List, map, Option, unwrap_or, refl, ◌∙◌}
 use Rattle.office_events.specs.declared.facts.Fact.{Fact}
 use Rattle.office_events.specs.declared.facts.HeldReading.{HeldReading}
@@ -19,8 +19,8 @@ use Rattle.office_store.proofs.FindingLemmas.Greatest.{permuted, last_greatest, 
 use Rattle.office_store.proofs.FindingLemmas.Moments.{by_meter, table_latest}
 use Rattle.office_store.proofs.FindingLemmas.Looking.{IsReported}
 
--- True if a query's optional timestamp equals the expected timestamp of the records. None, the
--- answer for an empty table, counts as 0.
+-- True if a query's optional timestamp equals the latest timestamp of the store's records, as the
+-- function `latest` computes it. None, the answer for an empty table, counts as 0.
 abbrev pub IsMoment : (List Fact → ℕ) → List Fact → Option ℕ → Type 0
 IsMoment latest facts found = unwrap_or found 0 ≡ latest facts
 

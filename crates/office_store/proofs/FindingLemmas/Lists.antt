@@ -1,4 +1,5 @@
--- Proofs about the rows of a device's SunSpec points and the point list that these rows encode.
+-- Proofs about the query for a device's SunSpec points. It returns the rows of the device's point
+-- list in order, and reading a row returns the point that it encodes.
 use Rattle.std.proofs.Common.{◌≡◌, ◌≢◌, ℕ, ◌+◌, ◌≤◌, ◌<◌, ◌==◌, Bool, true, false, ◌&&◌, cond, inl, inr, List, [], ◌∷◌, map, length, get_or, bytes_eq, Option, Some, None, Ok, Err, Result, IsTrue, IsSomeAnd, string_bytes, is_some, refl, sym, ap, ap₂, subst, ◌∙◌, IsPermutation, arith}
 use Rattle.std.specs.List.{AllByRecursion, All, find}
 use Rattle.std.specs.Option.{option_and_then}
@@ -59,7 +60,8 @@ module _ {X Y : Type 0} (row : ℕ → X → Y) where
     on_rises before [] = tt
     on_rises before (x ∷ xs) = (on_above (key (row (before + 1) x)) (before + 1) xs (let is = keyed (before + 1) x in omega (arith, is)), on_rises (before + 1) xs)
 
--- Lemmas that, if a point list obeys the rules, the texts in its rows of `points` can be parsed.
+-- Lemmas that, if a point list obeys the rules of point lists, the texts in its rows of `points`
+-- can be parsed.
 
 suits_of : (points : List ListedPoint) (point : ListedPoint) (scale : PointScale) → HasLawfulScale points point scale → Suits point.kind scale
 suits_of points point Unscaled h = tt
@@ -167,7 +169,8 @@ all_found P p (y ∷ ys) x all is = found_step P (p y) y x (find p ys) all.0 (al
 write_of : List Fact → (device : List ℕ) → Option DeviceList
 write_of facts device = find (λ (put : DeviceList). same put.device device) (lists_in facts)
 
--- True if the records have a point list of a device, and the points of this list are `points`.
+-- True if the store's records have a point list of a device, and the points of this list are
+-- `points`.
 pub record HasList (facts : List Fact) (device : List ℕ) (points : List ListedPoint) : Type 0 where
   pub list : Planned
   pub is : list_of facts device ≡ Some list

@@ -1,5 +1,6 @@
--- Proofs about a query after the check that the database is open, and about several queries in
--- sequence.
+-- Proofs that a look-up (a query for records) returns the answer that follows from the store's
+-- records, or a permitted error. It first checks that the database is open, and then runs one or
+-- more queries.
 use Rattle.std.proofs.Common.{◌≡◌, ◌⊎◌, inl, inr, ℕ, List, false, Ok, Err, Result, IfOk, IfErr, OnOk, IsErrAnd, IsTrue, refl, sym, subst, ◌∙◌, arith}
 use Rattle.std.specs.List.{AllByRecursion}
 use Rattle.sqlite.specs.Order.{Row}
@@ -49,8 +50,8 @@ module _ {S : Type 0} (g : Ghosts S) (zone : List ℕ) where
     goes = λ facts holds clean. still_goes (state g a);
   }
 
--- Lemmas that, after the check that the database is open succeeded, a query sees the committed rows
--- and returns the result of the look-up.
+-- Lemmas: after the check that the database is open succeeded, a query sees the committed rows. The
+-- look-up's contract allows the query's answer or error.
 
 -- The state of a connection after the check that the database is open succeeded. Queries then see
 -- the committed rows.
@@ -66,8 +67,8 @@ pub record HasSeen {S : Type 0} (g : Ghosts S) (zone : List ℕ) (mid : Held S) 
   pub tables : AreTables (state g mid).now content
   pub are : AreOf zone facts content
 
--- True if every answer that follows from the rows of a table is correct for the records. If the
--- records' values are in their ranges, so are the rows' values.
+-- True if every answer that follows from the rows of a table also follows from the store's records.
+-- If the records' values are in their ranges, the values in these rows are in their ranges too.
 pub record IsReported {A X : Type 0} (facts : List Fact) (content : Content) (tree : ℕ) (columns : X → Row) (IsSound : X → Type 0) (Answers : List X → A → Type 0) (Says : List Fact → A → Type 0) (AreSound : List Fact → Type 0) : Type 0 where
   pub rows : List X
   pub there : HasRows tree columns rows content
@@ -143,15 +144,15 @@ module _ {S : Type 0} (g : Ghosts S) (old mid : Held S) where
                 goes_then (state g old) (state g mid) (state g new) (first.goes facts holds (asks.clean clean)) (went_on (state g mid) (state g new) (λ _. ⊥) clean (asks.survives s.content s.tables));
           }
 
-      -- If a contract permits the error of a query, it permits this error also for a call that
-      -- first checks that the database is open.
+      -- If a contract permits an error for a query, it also permits this error for a call that
+      -- makes the query after the check that the database is open.
       pub since : (zone : List ℕ) (facts : List Fact) → HoldsFacts g zone old facts → HasCleanDisk (state g new) → (Sound : Type 0) (f : RowFault) → IsFault (state g mid) (state g new) Sound f → IsFault (state g old) (state g new) Sound f
       since zone facts holds clean Sound f why =
           let s = seen zone facts holds (asks.clean clean) in
           later_fault (state g old) (state g mid) (state g new) Sound f ((looks_touched zone).goes facts holds (asks.clean clean)) (asks.survives s.content s.tables).counts why
 
-      -- If a query returns Ok after the check that the database is open, its answer is the answer
-      -- of the look-up.
+      -- If a query returns Ok after the check that the database is open, the contract of the
+      -- look-up (the query for records) allows the query's answer.
       pub asked : {A : Type 0} (a : A) (Says : List Fact → A → Type 0) (AreSound : List Fact → Type 0)
           → (HasCleanDisk (state g new) → (content : Content) → AreTables (state g mid).now content → (zone : List ℕ) (facts : List Fact) → AreOf zone facts content → Says facts a)
           → Finds g old new (Ok a) Says AreSound
@@ -161,8 +162,8 @@ module _ {S : Type 0} (g : Ghosts S) (old mid : Held S) where
         looks = looks_asked;
       }
 
-      -- If a query fails after the check that the database is open, the look-up returns the error
-      -- of the query.
+      -- If a look-up (a function that queries the store) has checked that the database is open, and
+      -- its query then fails, the look-up returns the error of the query.
       pub not_asked : {A : Type 0} (e : Error) (r : Result A RowFault) (Says : List Fact → A → Type 0) (AreSound : List Fact → Type 0)
           → (HasCleanDisk (state g new) → (content : Content) → AreTables (state g mid).now content → (zone : List ℕ) (facts : List Fact) → AreOf zone facts content → IsStoreError (state g mid) (state g new) e)
           → IsErrAnd r (λ d. d ≡ Sql e) → Finds g old new r Says AreSound
@@ -191,8 +192,8 @@ module _ {S : Type 0} (g : Ghosts S) (old mid : Held S) where
       looks = looks_asked new it.asks;
     }
 
-    -- If the rows of one table determine an answer about the records, the query of this table
-    -- returns the answer of the look-up.
+    -- If the rows of one table determine an answer about the store's records, the query of this
+    -- table returns the answer of the look-up.
     pub reported_of : {A X : Type 0} (new : Held S) (tree : ℕ) (columns : X → Row) (IsSound : X → Type 0) (r : Result A RowFault) (Answers : List X → A → Type 0)
         → LooksUp g mid new tree columns IsSound r Answers → (Says : List Fact → A → Type 0) (AreSound : List Fact → Type 0)
         → ((zone : List ℕ) (facts : List Fact) (content : Content) → AreOf zone facts content → IsReported facts content tree columns IsSound Answers Says AreSound)
@@ -210,8 +211,8 @@ module _ {S : Type 0} (g : Ghosts S) (old mid : Held S) where
       looks = looks_asked new it.asks;
     }
 
-    -- If a look-up runs no query after the check that the database is open, it satisfies the
-    -- contract of a look-up.
+    -- If a look-up (a query for records) runs no query after the check that the database is open,
+    -- its answer satisfies the look-up's contract.
     pub seen_alone : {A : Type 0} (a : A) (Says : List Fact → A → Type 0) (AreSound : List Fact → Type 0) → ((facts : List Fact) → AreLawful facts → Says facts a) → Finds g old mid (Ok a) Says AreSound
     seen_alone a Says AreSound reports = record {
       answer = λ zone facts holds clean. reports facts (seen zone facts holds clean).are.lawful;

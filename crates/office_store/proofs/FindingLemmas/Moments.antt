@@ -1,4 +1,5 @@
--- Proofs about the timestamps of a meter's entries, and the latest of these timestamps.
+-- Proofs that the latest timestamp in the rows of `entries` equals the latest timestamp of the
+-- meter entries that the store has recorded.
 use Rattle.std.proofs.Common.{◌≡◌, ℕ, ◌≤◌, ◌==◌, ◌&&◌, Bool, true, false, cond, List, [], ◌∷◌, map, filter, get_or, is_some, Option, Some, None, refl, sym, ap, ap₂, subst, ◌∙◌, IsPermutation, arith}
 use Rattle.std.specs.List.{AllByRecursion, All, find, cons_option}
 use Rattle.std.proofs.lemmas.List.Sorted.{IsPermutation-sym}
@@ -70,8 +71,8 @@ journal_moments opening (Entered k e ∷ lines) = ap (λ ms. moment_of e ∷ ms)
 journal_moments opening (Held reading cause ∷ lines) = journal_moments opening lines
 journal_moments opening (Voided place ∷ lines) = void_moments opening place (rows_of opening lines) ∙ journal_moments opening lines
 
--- Lemmas that, if a property holds for all timestamps of a meter's entries, it holds for the
--- timestamps in its rows of `entries`.
+-- Lemmas that, if a property holds for all timestamps of a meter's entries, the property holds for
+-- the timestamps in the meter's rows of `entries`.
 
 module _ (P : ℕ → Type 0) where
   entered_all : (o : Opening) (rows : List EntryRow) → AllByRecursion P (moments_of rows) → P o.at → AllByRecursion (λ e. P (entry_moment e)) (entered_rows o rows)
@@ -129,8 +130,8 @@ some_after : {X : Type 0} (b : Bool) (x : X) (o : Option X) → is_some o ≡ tr
 some_after true x o h = refl
 some_after false x o h = h
 
--- If the rules accepted the records, each recorded meter entry belongs to a meter that was
--- installed.
+-- If the records are lawful (the store's rules accepted each after the earlier ones), each recorded
+-- meter entry belongs to a meter that was installed.
 has_opening : (facts : List Fact) → AreLawful facts → AllByRecursion (λ (b : BookedEntry). is_some (opening_of facts b.meter) ≡ true) (facts_of.entries_in facts)
 has_opening [] h = tt
 has_opening (fact.Device d ∷ facts) h = has_opening facts h.1
@@ -156,8 +157,8 @@ module _ (facts : List Fact) (n : ℕ) where
       subst (λ (t : List ℕ). AllByRecursion (λ (b : BookedEntry). same b.meter t ≡ true → Early (moment_of b.entry)) (facts_of.entries_in facts)) (named facts meter o there)
       (journal_back Early o.meter facts (subst (AllByRecursion Early) (journal_moments (opened o) (journal_of facts o.meter)) (entered_back Early o (meters.rows_of facts o) all).0))
 
-  -- No meter entry in the records, including the first entry of each meter, is later than the
-  -- latest timestamp in `entries`.
+  -- No meter entry in the store's records, including the first entry of each meter, is later than
+  -- the latest timestamp in `entries`.
   pub entries_above : AreLawful facts → ((meter : List ℕ) → AllByRecursion (λ e. Early (entry_moment e)) (entries_of facts meter)) → latest_entered facts ≤ n
   entries_above lawful each =
       let es = facts_of.entries_in facts in
@@ -182,7 +183,7 @@ module _ (facts : List Fact) (n : ℕ) where
       (all_found (λ (q : Opening). Early q.at) (λ (q : Opening). same q.meter meter) (openings_in facts) o (none_past (λ (q : Opening). q.at) (openings_in facts) n (omega (arith, h))) there)
 
   -- The latest timestamp in `entries` is at most the latest timestamp of all meter entries in the
-  -- records, including first entries.
+  -- store's records, including first entries.
   pub entries_below : (meter : List ℕ) → latest_entered facts ≤ n → AllByRecursion (λ e. Early (entry_moment e)) (entries_of facts meter)
   entries_below meter h = below_found meter (opening_of facts meter) refl h
 

@@ -1,4 +1,4 @@
--- Proofs that readers return the values that the rows of tables encode.
+-- Proofs that the functions which read rows of tables return the values that these rows encode.
 use Rattle.std.proofs.Common.{◌≡◌, ℕ, zero, suc, ◌+◌, ◌≤◌, ◌<◌, nat_le, Bool, true, false, ◌&&◌, if◌then◌else◌, List, [], ◌∷◌, ◌++◌, map, take, length, get_or, Option, Some, None, Ok, Err, Result, IfOk, IfErr, IsErrAnd, string_bytes, refl, sym, ap, ap₂, subst, ◌∙◌, arith, add-one}
 use Rattle.std.specs.List.{AllByRecursion}
 use Rattle.std.proofs.Math.Bridge.{le_prop}
@@ -34,16 +34,17 @@ use Rattle.office_store.specs.Finding.Reading.{device_with, IsDeviceOf, source_f
 use Rattle.office_store.specs.Finding.Sound.{IsReadableDevice, IsReadableRegister, IsReadablePoll}
 use Rattle.office_store.proofs.FindingLemmas.Each.{each_append}
 
--- Lemmas on reading one row: the result is the value that the row encodes, or the error of the
--- row's reader.
+-- Lemmas: reading one row and converting its value returns the value that the row encodes, or the
+-- error of the row's reader.
 
 module _ {A B X : Type 0} (row : Row) (shown : X → Row) (Seen : X → A → Type 0) (Is : X → B → Type 0) (S T : X → Type 0) where
-  -- If a row can be read, and the value is then converted correctly, the result is the value that
-  -- the row encodes.
+  -- If a row can be read, and the value that was read is then converted correctly, the result is
+  -- the value that the row encodes.
   pub reads_then : (a : A) (r : Result B RowFault) → ReadsRow row shown Seen S (Ok a) → ((x : X) → Seen x a → IsFair (T x) (Is x) r) → ReadsRow row shown Is T r
   reads_then a r one fair = record { read = λ x is. (fair x (one.read x is)).read; fault = λ x is. (fair x (one.read x is)).fault }
 
-  -- If a row can't be read, the result is the error of the row's reader.
+  -- If one part of a row's reader fails and the whole reader returns the same error, then the whole
+  -- reader satisfies its contract.
   pub not_read : (e : RowFault) (r : Result B RowFault) → ReadsRow row shown Seen S (Err e) → ((x : X) → T x → S x) → IsErrAnd r (λ d. d ≡ e) → ReadsRow row shown Is T r
   not_read e (Ok b) one sound fails = absurd fails
   not_read e (Err d) one sound fails = record {
@@ -167,7 +168,7 @@ at_element shown (x ∷ xs) zero row lt is = (x, is, λ S all. all.0)
 at_element shown (x ∷ xs) (suc i) row lt is = let it = at_element shown xs i row (omega arith) is in (it.0, it.1, λ S all. it.2 S all.1)
 
 module _ {X A : Type 0} (rows : List Row) (shown : X → Row) (Seen : X → A → Type 0) where
-  -- True if the list `done` has the values of the first `i` rows, in order.
+  -- True if the values in `done` are those of the first `i` rows, in order.
   abbrev pub HasReadSome : ℕ → List A → Type 0
   HasReadSome i done = (xs : List X) → rows ≡ map shown xs → AreEach Seen (take i xs) done
 
@@ -180,7 +181,8 @@ module _ {X A : Type 0} (rows : List Row) (shown : X → Row) (Seen : X → A �
         let it = this_row xs are in
         rw (add-one) (subst (λ l. AreEach Seen l (done ++ a ∷ [])) (sym it.2) (each_append Seen (take i xs) (it.0 ∷ []) done (a ∷ []) (some xs are) (reads.read it.0 it.1, tt)))
 
-    -- If one of several rows can't be read, reading all rows returns the error for this row.
+    -- If one of several rows can't be parsed, the reader of all rows returns the error for this
+    -- row.
     pub unreadable : {T : Type 0} (S : X → Type 0) (items : T → List A) (e : RowFault) (r : Result T RowFault) → ReadsRow row shown Seen S (Err e) → IsErrAnd r (λ d. d ≡ e) → ReadsAll rows shown Seen S items r
     unreadable S items e (Ok v) reads fails = absurd fails
     unreadable S items e (Err d) reads fails = record {

@@ -1,5 +1,5 @@
--- Proofs about stored requests, and about comparing a retried request with the request that is
--- stored under its idempotency key.
+-- Proofs: no idempotency key has two stored requests, and comparing a retried request with the
+-- stored one gives the result that the store's records require.
 use Rattle.std.proofs.Common.{◌≡◌, ℕ, ◌+◌, ◌≤◌, ◌<◌, ◌^◌, ◌==◌, ◌&&◌, Bool, true, false, cond, if◌then◌else◌, inl, inr, List, [], ◌∷◌, map, filter, length, find, bytes_eq, Option, Some, None, refl, sym, ap, subst, ◌∙◌, arith}
 use Rattle.std.specs.Option.{option_map}
 use Rattle.std.proofs.lemmas.Bool.{cond-true, cond-false, eqb-true, ne_eqb, and_parts}
@@ -30,7 +30,8 @@ repeat_back false k = refl
 abbrev of : (caller : List ℕ) (number : ℕ) → Reply → Bool
 of caller number r = same r.caller caller && (r.number == number)
 
--- If the rules accepted the records, no idempotency key has two stored requests.
+-- If the records are lawful (the store's rules accepted each after the earlier ones), no
+-- idempotency key has two stored requests.
 few_replies : (facts : List Fact) (caller : List ℕ) (number : ℕ) → AreLawful facts → length (filter (of caller number) (replies_in facts)) ≤ 1
 few_replies [] caller number h = omega arith
 few_replies (fact.Device d ∷ facts) caller number h = few_replies facts caller number h.1

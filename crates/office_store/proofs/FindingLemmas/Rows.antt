@@ -1,4 +1,5 @@
--- Proofs about rows of tables: their order, their indices, and queries that return at most one row.
+-- Proofs about the rows of tables: rows in the order of their keys, rows numbered by index, and
+-- queries that return at most one row.
 use Rattle.std.proofs.Common.{◌≡◌, ℕ, ◌+◌, ◌≤◌, ◌<◌, Bool, true, false, cond, inl, inr, List, [], ◌∷◌, ◌++◌, map, filter, reverse, length, find, slice_get, Option, Some, None, refl, sym, ap, ap₂, subst, ◌∙◌, IsPermutation, arith}
 use Rattle.std.specs.List.{AllByRecursion}
 use Rattle.std.proofs.lemmas.Bool.{cases_Bool, cond-true, cond-false}
@@ -13,8 +14,8 @@ use Rattle.office_store.specs.Finding.Each.{AreEach}
 use Rattle.office_store.proofs.FindingLemmas.Each.{each_append, each_filter, each_length}
 use Rattle.office_store.proofs.FindingLemmas.Ordered.{Rises, NeverFalls, one_order}
 
--- Lemmas on rows in the order of their keys: reversing a list with descending keys sorts the list
--- in ascending order.
+-- Lemmas on reversing a list of rows: a list with descending keys becomes a list with ascending
+-- keys.
 
 module _ {X A : Type 0} (Is : X → A → Type 0) where
   pub each_reverse : (xs : List X) (vs : List A) → AreEach Is xs vs → AreEach Is (reverse xs) (reverse vs)
@@ -62,8 +63,8 @@ module _ {X Y : Type 0} (row : ℕ → X → Y) where
 -- or None.
 
 module _ {X A B : Type 0} (Is : X → A → Type 0) (Seen : X → B → Type 0) (p : X → Bool) (q : A → Bool) where
-  -- True if a query found the only element that passes a test, or None because no element passes
-  -- it.
+  -- True if a query's result is correct for a list in which at most one element passes a test. The
+  -- result is this element, or None because no element passes.
   abbrev pub IsOnly : List A → Option B → Type 0
   IsOnly vs None = find q vs ≡ None
   IsOnly vs (Some b) = (x : X) × (a : A) × Is x a × Seen x b × (find q vs ≡ Some a)
@@ -89,8 +90,8 @@ module _ {X A B : Type 0} (Is : X → A → Type 0) (Seen : X → B → Type 0) 
       let it = one_of (filter p xs) (filter q vs) h.0 h.2 (each_filter Is p q agree xs vs each) few h.3 in
       (h.0, it.0, it.1, h.1, sym (slice_get-filter q vs) ∙ it.2)
 
--- If the values of all rows are in their ranges, the values of the row that a look-up finds are in
--- their ranges.
+-- Suppose that each element of a list has a property, for example that its values are in their
+-- ranges. Then the element that a look-up in the list finds has this property.
 pub found_sound : {X B : Type 0} (Seen : X → B → Type 0) (p : X → Bool) (S : X → Type 0) (xs : List X) (b : B) → IsFound p Seen xs (Some b) → (x : X) × Seen x b × (AllByRecursion S xs → S x)
 found_sound Seen p S xs b h = (
   h.0,

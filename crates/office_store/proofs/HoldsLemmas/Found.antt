@@ -1,4 +1,5 @@
--- The rows of `holds` (rejected readings) that the queries for a meter return.
+-- Proofs that the queries for a meter's rejected readings, with or without a time span, return the
+-- meter's rows of `holds`.
 use Rattle.std.proofs.Common.{◌&&◌, nat_lt, pos, ℕ, List, [], ◌∷◌, Bool, true, bytes_eq, refl}
 use Rattle.sqlite.specs.declared.types.Value.TheVariants.{Int, Text}
 use Rattle.sqlite.specs.Order.{Row}

@@ -35,8 +35,9 @@ one_of_eight cause.TooFast = (omega arith, omega arith)
 one_of_eight cause.TotalFull = (omega arith, omega arith)
 one_of_eight cause.NotBelowRange = (omega arith, omega arith)
 
--- Lemmas that, if every valid row passes a column's range test, reading the column returns the
--- value, or correctly reports the row as `Damaged`.
+-- Lemmas on reading a column of the table `holds` (rejected readings) with a range test: reading
+-- returns the value, or `Damaged` if the value is out of its range. The contract allows `Damaged`,
+-- because every row with values in their ranges passes the test.
 module _ {B : Type 0} (Sound : Type 0) (Is : B → Type 0) (next : ℤ → Result B RowFault) where
   tested : (b : Bool) (n : ℤ) → (Sound → b ≡ true) → IsFair Sound Is (next n) → IsFair Sound Is (and_then (or_damaged (if b then Some n else None)) next)
   tested true n sound rest = rest
@@ -57,8 +58,8 @@ fair_reading meter h =
     (fair_some S P _ (cause_of (cause_number h.row.cause)) h.row.cause (cause_back h.row.cause)
     (record { read = refl; fault = tt }))))))
 
--- Lemmas that, if a row of `holds` can be read, all values of the rejected reading are in their
--- ranges.
+-- Lemmas: if a row of the table `holds` (rejected readings) can be parsed, all values of the parsed
+-- reading are in their ranges.
 
 sixteen_if : (n m : ℤ) (b : Bool) → has_sixteen_bits n ≡ b → (if b then Some n else None) ≡ Some m → IsTrue (has_sixteen_bits m)
 sixteen_if n m true is e = let same : n ≡ m = cc in subst (λ k. IsTrue (has_sixteen_bits k)) same is

@@ -1,4 +1,5 @@
--- The rows that the queries on the tables `intervals` and `installations` return.
+-- Proofs that the queries for energy on the tables `intervals` and `installations` return the rows
+-- of the requested meter, accounting register (a named energy counter) and time span.
 use Rattle.std.proofs.Common.{◌≡◌, ◌<◌, ◌≤◌, ◌<ℤ◌, ◌⊎◌, ◌&&◌, nat_lt, inl, inr, pos, ℕ, List, [], ◌∷◌, ◌++◌, map, filter, flat_map, Bool, true, false, bytes_eq, if◌then◌else◌, Ordering, Less, Equal, Greater, is_gt, refl, sym, ap, ap₂, subst, ◌∙◌, arith, IsPermutation}
 use Rattle.std.specs.List.{AllByRecursion, list_all}
 use Rattle.std.specs.Ordering.{ordering_then, int_cmp, MatchOrdering}
@@ -103,8 +104,8 @@ abbrev AreShown : (passes : Installed × Interval → Bool) → Lying → List S
 AreShown passes lying all =
     (found : List (Installed × Interval)) × AreFound passes ComesAfter (pairs lying.installed lying.rows) found × (all ≡ map (λ p. p.1.share) found)
 
--- Proofs about a query that joins `installations` and `intervals`, with a WHERE clause that tests
--- `passes`.
+-- Proofs about a query that joins `installations` and `intervals`: it returns the pairs of rows
+-- that pass the test `passes`, which the query's WHERE clause expresses.
 module _ (params : Row) (tests : List Term) (passes : Installed × Interval → Bool)
     (reports : (p : Numbered Installed × Numbered Interval) → list_all (holds (params ∷ lay true installed_columns p.0 ∷ lay false interval_columns p.1 ∷ [])) tests ≡ passes (p.0.1, p.1.1)) where
   abbrev Pair : Type 0

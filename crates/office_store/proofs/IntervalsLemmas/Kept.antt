@@ -1,5 +1,5 @@
--- Stored rows of `intervals` whose energy is any SQLite value, as it may be during an UPDATE, and
--- the quarter hours that they encode.
+-- Defines rows of `intervals` whose energy may be any SQLite value, as during an UPDATE, and proves
+-- which quarter hours these rows encode.
 use Rattle.std.proofs.Common.{◌≡◌, ◌≤◌, ◌<◌, ◌^◌, ◌+◌, ◌==◌, inl, inr, ℕ, pos, List, [], ◌∷◌, map, Bool, ◌&&◌, bytes_eq, Some, refl, sym, ap, ap₂, subst, ◌∙◌, arith, if◌then◌else◌, IsPermutation}
 use Rattle.std.specs.List.{list_any}
 use Rattle.std.proofs.lemmas.Bool.{cases_Bool}
@@ -82,8 +82,8 @@ added_share meter share is small = elim (cases_Bool (list_any (is_at meter share
   | inr none ↦ rw (any_kept meter share.start is, none) refl
 ]
 
--- Lemmas that a change of the stored rows of `intervals` makes the corresponding change to the
--- quarter hours that the rows encode.
+-- Lemmas that if stored rows of `intervals` are changed, the quarter hours that these rows encode
+-- are changed in the same way.
 
 columns_of : (is : List Interval) → map kept_columns (map kept_of is) ≡ map interval_columns is
 columns_of is = map-map kept_columns kept_of is

@@ -42,7 +42,8 @@ sound_shares law step forward energy till =
     let sums = within_sum (shares_of step) step.mwh (omega (arith, spread.whole)) in
     all_both _ _ _ (λ s start mwh. record { start = omega (arith, start, till); mwh = omega (arith, mwh, energy) }) (shares_of step) starts sums
 
--- Two edits of `intervals` in sequence have the effect of one combined edit.
+-- If two edits of `intervals` follow each other, they have the effect of the one edit that combines
+-- both.
 
 edits_then : (May One Two : List Interval → Type 0) (all one two : List Interval → List Interval)
     → ((is : List Interval) → May is → One is × Two (one is) × (two (one is) ≡ all is)) → (x y z : Content) → EditsIf One one x y → EditsIf Two two y z → EditsIf May all x z

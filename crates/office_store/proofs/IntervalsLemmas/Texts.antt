@@ -165,8 +165,8 @@ register_intervals_project = col 2 2 ∷ col 2 3 ∷ []
 abbrev pub register_intervals_order : List (Term × Key)
 register_intervals_order = (col 1 0, rising) ∷ (col 2 2, rising) ∷ []
 
--- A query that joins `installations` and `intervals` to read the energy of an accounting register
--- (a named energy counter). Its rows are ordered by the meter's index, then by start.
+-- The query that joins `installations` and `intervals` to read the energy of an accounting register
+-- (a named energy counter). The query orders its rows by the meter's index, then by start.
 abbrev pub joined : (tests : List Term) → Query
 joined tests = record {
   from = inner 7 (inner 14 end);

@@ -1,5 +1,5 @@
--- The effect of INSERT .. ON CONFLICT DO UPDATE (an upsert) on `intervals`, the table of energy by
--- quarter hour.
+-- Proofs of the effect of INSERT .. ON CONFLICT DO UPDATE (an upsert) on `intervals`, the table of
+-- energy by quarter hour.
 use Rattle.std.proofs.Common.{◌≡◌, ◌≢◌, inl, inr, ℕ, ◌==◌, ℤ, pos, List, [], ◌∷◌, map, filter, drop, Bool, true, false, not, ◌&&◌, ◌||◌, bytes_eq, Option, Some, None, Ok, Err, Result, OnOk, refl, sym, ap, subst, ◌∙◌, IsPermutation, eqb-true}
 use Rattle.std.specs.List.{list_any, AllByRecursion}
 use Rattle.std.specs.Ordering.{is_eq, is_ne}
@@ -58,8 +58,8 @@ use Rattle.office_store.specs.Intervals.Trees.{intervals}
 use Rattle.office_store.proofs.IntervalsLemmas.Kept.{Kept, kept_columns, is_kept, adds, upserted}
 use Rattle.office_store.proofs.IntervalsLemmas.Texts as text
 
--- Lemmas that the comparisons of SQL values in an upsert agree with comparisons of Booleans and
--- integers.
+-- Lemmas that SQL comparisons in an upsert give true exactly if the same comparisons of Booleans or
+-- integers are true.
 
 truth_back : (b : Bool) → is_true (from_truth (Some b)) ≡ b
 truth_back true = refl
@@ -175,7 +175,7 @@ module _ (meter : List ℕ) (start mwh : ℕ) where
     clashing_is n k = rw (first_key-plain, text_is k.meter meter, number_is k.start start, and_true, or_false) refl
 
     -- The values that the upsert's UPDATE may use: the parameters, the rowid of the existing row,
-    -- and the row `excluded`, which was not inserted.
+    -- and `excluded`, the row whose insertion caused the conflict.
     abbrev given : ℤ → Row
     given k = Text meter ∷ Int (pos start) ∷ Int (pos mwh) ∷ Int k ∷ Int fresh ∷ columns
 
@@ -207,7 +207,8 @@ module _ (meter : List ℕ) (start mwh : ℕ) where
       abbrev task : Task
       task = record { limit = limit; keys = Enforced; schema = books_schema; table = intervals_table; params = columns }
 
-      -- The state of the tables after the upsert wrote its row.
+      -- The state of the tables after an upsert of a quarter hour's energy inserted or updated the
+      -- row of `intervals`.
       record Done (w : Written) : Type 0 where
         keeps : AreApart (w.trees intervals)
         others : AllByRecursion (λ t. t.tree ≢ intervals → w.trees t.tree ≡ db t.tree) books_schema.tables

@@ -1,4 +1,5 @@
--- Proofs that two rows are equal if their columns in a table are equal.
+-- Proofs that two values that model rows of the store are equal if their columns in an SQL table
+-- are equal.
 use Rattle.std.proofs.Common.{◌≡◌, ℕ, Bool, true, false, refl, Option, Some, None, if◌then◌else◌}
 use Rattle.std.specs.Prelude.{◌==◌}
 use Rattle.mb_wire.specs.declared.span.ReadFunction.{ReadFunction}
@@ -26,7 +27,7 @@ use Rattle.store_tables.specs.Polls.Rows.{Started, Held, Kept, poll_columns, out
 use Rattle.store_tables.specs.Polls.Rows as polls
 use Rattle.office_store.proofs.LawsLemmas.Lists.{IsInjective, undone}
 
--- Lemmas on the numbers and words that encode enum values in columns.
+-- Lemmas that different enum values are stored as different numbers or words in columns.
 
 function_back : (f : ReadFunction) → function_of (code_of f) ≡ Some f
 function_back HoldingRegisters = refl
@@ -107,7 +108,8 @@ one_scale (scale.Fixed n) (scale.At m) k e = absurd (let h = k in cc)
 one_scale (scale.At n) (scale.Fixed m) k e = absurd (let h = k in cc)
 one_scale (scale.At n) (scale.At m) k e = let same : n ≡ m = cc in λ i. scale.At (same i)
 
--- Lemmas that two rows are equal if their columns are equal.
+-- Lemmas that two values that model rows of the store are equal if their columns in the SQL table
+-- are equal.
 
 pub one_device : IsInjective device_columns
 one_device a b e =

@@ -22,8 +22,8 @@ use Rattle.office_store.specs.Rows.{placed, added, registered, installed_row, ra
 use Rattle.office_store.specs.Tables.{meta_tree, meta_columns, AreOf}
 use Rattle.office_store.specs.Laws.Laws.{TablesTellTheirFacts, DatabasesTellTheirFacts}
 
--- Lemmas on two contents that one database's tables encode. Both contents have the same rows,
--- possibly in another order.
+-- Lemmas on two contents that the tables of one database have. The contents have the same rows,
+-- possibly in another order, so they encode the same records.
 module _ (db : Database) (content after : Content) (had : AreTables db content) (has : AreTables db after) where
   same_rows : {X : Type 0} (tree : ℕ) (columns : X → Row) (rows : List X) → HasTree books_schema.tables tree → HasRows tree columns rows content → HasRows tree columns rows after
   same_rows tree columns rows there are =

@@ -23,8 +23,8 @@ use Rattle.office_store.proofs.LawsLemmas.Lists.{Among, InOrder, undone}
 use Rattle.office_store.proofs.LawsLemmas.Journals.{is_change, sets, IsFormed, StandsBy}
 use Rattle.office_store.proofs.LawsLemmas.Placed.{Falls}
 
--- The kind of a meter entry in the records, from its kind in the table `entries`. None for the
--- opening, the meter's first entry.
+-- The kind of a meter entry in the store's records, from its kind in the table `entries`. None for
+-- the opening, the meter's first entry.
 kind_from : EntryKind → Option journal.EntryKind
 kind_from kind.Opening = None
 kind_from kind.Reading = Some from.Reading
@@ -41,8 +41,8 @@ kind_back from.Closing = refl
 kind_back from.Reset = refl
 kind_back from.Rescale = refl
 
--- True if a scale factor is the scale factor that a counter reset or a change of scale set. Always
--- true for any other meter entry.
+-- True if a meter entry that sets the counter (a reset, or a change of scale) sets the given scale
+-- factor. Always true for any other meter entry.
 abbrev HasScale : Entry → ℤ → Type 0
 HasScale (entry.Step at raw rolls) sf = Unit {0}
 HasScale (entry.Change at before new set) sf = set ≡ sf
@@ -104,7 +104,8 @@ module _ (o : Opening) (lines others : Journal) (voids : SameVoids lines others)
       let rest : entered_rows o xs ≡ entered_rows o ys = cc in
       ap₂ ◌∷◌ (row_reported x y xs ys head p.0 q.0 s.0 t.0) (rows_reported xs ys rest p.1 q.1 s.1 t.1)
 
--- Lemmas on the indices of a meter's entries.
+-- Lemmas that the rows of a meter's entries have distinct indices, and that the row with index 1 is
+-- the meter's first entry.
 
 few : (o : Opening) (n : ℕ) (xs : List EntryRow) → AreNumbered xs → length xs + 1 ≤ n → AllByRecursion (λ e. entry_place e ≤ n) (entered_rows o xs)
 few o n [] h le = (omega arith, tt)

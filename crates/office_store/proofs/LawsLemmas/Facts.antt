@@ -1,4 +1,6 @@
--- Proofs of properties that follow for each kind of record if the rules accepted all records.
+-- Proofs of properties of each kind of record, such as point lists and meter entries. The
+-- properties follow if the records are lawful (the store's rules accepted each after the earlier
+-- ones).
 use Rattle.std.proofs.Common.{◌≡◌, ℕ, ◌+◌, ◌≤◌, ◌==◌, ◌&&◌, ◌||◌, Bool, true, false, cond, List, [], ◌∷◌, length, refl, ap, ◌∙◌, Option, Some, None, arith}
 use Rattle.std.specs.List.{AllByRecursion, find, list_any, cons_option}
 use Rattle.std.proofs.lemmas.List.Elements.{recursion_from_All}
@@ -27,7 +29,8 @@ use Rattle.office_store.proofs.LawsLemmas.Placed.{Falls}
 use Rattle.office_store.proofs.LawsLemmas.Journals.{IsFormed, StandsBy, rows_are_formed, rows_stand_by}
 use Rattle.office_store.proofs.LawsLemmas.Points.{IsPut}
 
--- Lemmas that every point list in accepted records obeys the rules of point lists.
+-- Lemmas that every point list in lawful records (each accepted by the store's rules after the
+-- earlier ones) obeys the rules of point lists.
 
 all_planned : (facts : List Fact) → AreLawful facts → AllByRecursion (λ put. IsPlanned put.list) (lists_in facts)
 all_planned [] h = tt
@@ -87,7 +90,9 @@ counted_fall (p ∷ ps) h = (
 pub polls_fall : (facts : List Fact) → AreLawful facts → InOrder (Falls number_of) (polls_in facts)
 polls_fall facts h = counted_fall (polls_in facts) (polls_counted facts h)
 
--- Lemmas on the properties of meters and their entries in accepted records.
+-- Lemmas on lawful records (each accepted by the store's rules after the earlier ones). Each meter
+-- was installed once. Its entries are numbered, fit their kinds, and are marked as voided exactly
+-- if they were voided.
 
 abbrev pub IsInstalled : List Fact → Opening → Type 0
 IsInstalled facts o = opening_of facts o.meter ≡ Some o
@@ -96,8 +101,9 @@ pub all_installed : (facts : List Fact) → AreLawful facts → AllByRecursion (
 all_installed facts h =
     recursion_from_All (IsInstalled facts) (openings_in facts) (each_found (λ (o : Opening). o.meter) (openings_in facts) (openings_apart facts h))
 
--- The properties of each meter's entries if the rules accepted all records: the rows are numbered,
--- have valid forms, and have correct void marks.
+-- The properties of each meter's entries in lawful records (each accepted by the store's rules
+-- after the earlier ones). The entries' rows are numbered, fit their kinds of entry, and are marked
+-- as voided exactly if they were voided.
 pub record HasRows (facts : List Fact) (o : Opening) : Type 0 where
   pub numbered : AreNumbered (rows_of facts o)
   pub formed : AllByRecursion IsFormed (rows_of facts o)
@@ -131,7 +137,8 @@ held_no_line : (b : Bool) (place : ℕ) (line : journal.Line) (lines : journal.J
 held_no_line true place line lines h = h
 held_no_line false place line lines h = refl
 
--- A meter's history marks an entry as voided if and only if the records void (cancel) this entry.
+-- A meter's history marks an entry as voided if and only if the store's records void (cancel) this
+-- entry.
 pub voids_named : (facts : List Fact) (meter : List ℕ) (place : ℕ) → is_voided place (journal_of facts meter) ≡ list_any (names meter place) (voids_in facts)
 voids_named [] meter place = refl
 voids_named (fact.Device d ∷ facts) meter place = voids_named facts meter place

@@ -1,4 +1,5 @@
--- Proofs about the tables of a database file that was created or opened.
+-- Proofs that a file that was just created encodes no records, and that opening a file of any
+-- version keeps its records.
 use Rattle.std.proofs.Common.{◌≡◌, ◌≢◌, ◌==◌, ◌⊎◌, inl, inr, ◌||◌, Bool, true, false, ℕ, List, [], ◌∷◌, ◌++◌, map, take, drop, sym, subst, refl, ◌∙◌, IsPermutation, arith}
 use Rattle.std.specs.Prelude.{All}
 use Rattle.std.specs.List.{list_any}
@@ -64,7 +65,8 @@ new_files_have_none zone content new = record {
   replies = none poll_tree.replies reply_columns content (new.empty 16 (λ is. omega (arith, is)));
 }
 
--- Lemmas on the tables of every version of the database file.
+-- Lemmas on the tables of the three versions of the database file: every version has the tables of
+-- version 1.
 
 either : (b c : Bool) → (b || c) ≡ true → (b ≡ true) ⊎ (c ≡ true)
 either true c is = inl refl
@@ -76,7 +78,7 @@ same_tree a b is = grind (arith, nat_tests)
 other_tree : (a b : ℕ) → (a == b) ≡ false → a ≢ b
 other_tree a b off is = grind (arith, nat_tests)
 
--- If a search by number finds B-tree `t` in a list of tables, then the list has a table with this
+-- If a search by number finds the B-tree `t` in a list of tables, then a table of the list has this
 -- B-tree.
 has_tree : (tables : List Table) (t : ℕ) → list_any (λ (x : Table). x.tree == t) tables ≡ true → HasTree tables t
 has_tree [] t is = absurd (cc)
@@ -108,7 +110,8 @@ full_ranges facts (opening ∷ openings) full =
     let rest = full_ranges facts openings (All-tail HasFullRange opening openings full) in
     λ i. record { meter = opening.meter; range = here i } ∷ rest i
 
--- Lemmas on the tables after a database file was opened.
+-- Lemmas that after a database file of any version was opened, the tables encode the records of the
+-- file.
 
 has_ranges : (layout : Layout) (zone : List ℕ) (facts : List Fact) (db : Database) (it : HasFactsIn layout zone facts db) (after : Content)
     → IsBrought layout zone it.content after → HasRows meter_tree.ranges ranged_columns (map ranged (openings_in facts)) after
@@ -159,8 +162,9 @@ opened_files_keep_theirs layout zone facts db it after brought =
       replies = stay poll_tree.replies reply_columns (map kept (replies_in facts)) it.newest after (carried 16 refl refl refl refl) a.replies;
     }
 
--- If opening a file keeps its records, two definitions of the encoded records agree for files of
--- version 3. These are `HasFactsIn` (for files of any version) and `HasFacts` (for current tables).
+-- Suppose that opening a file keeps its records. Then two definitions of the records that a file of
+-- version 3 encodes agree: `HasFactsIn` (for files of any version) and `HasFacts` (for current
+-- tables).
 pub newest_files_have_theirs : OpenedFilesKeepTheirs → NewestFilesHaveTheirs
 newest_files_have_theirs keep zone facts db = (
   λ it. record {

@@ -9,7 +9,8 @@ use Rattle.office_store.specs.Holding.{HasFacts}
 use Rattle.office_store.specs.Laws.Laws.{LeftFactsAreFound}
 use Rattle.office_store.specs.Laws.Files.{HasFactsIn, FoundFilesKeepTheirs}
 
--- If two database schemas fit the same B-trees, the schemas are equal.
+-- If the same B-trees encode the tables of a database for each of two schemas (`IsSound`), the two
+-- schemas are equal.
 one_schema : (s t : Schema) (trees : Trees) → IsSound s trees → IsSound t trees → s ≡ t
 one_schema s t trees h k =
     let read = reads _ s h.lists in read_once _ s t read.tables read.indexes read.views (reads _ t k.lists)

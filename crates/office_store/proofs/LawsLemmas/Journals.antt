@@ -1,5 +1,5 @@
--- Proofs about the rows of a meter's history: each row fits its kind of entry, and is correctly
--- marked as voided (cancelled) or not.
+-- Proofs about the rows of a meter's history: each row fits its kind of entry, and is marked as
+-- voided (cancelled) exactly if a void names the entry.
 use Rattle.std.proofs.Common.{◌≡◌, ℕ, ◌==◌, ◌&&◌, Bool, true, false, not, List, [], ◌∷◌, refl, sym, ap, subst, ◌∙◌, inl, inr, Option, Some, None}
 use Rattle.std.specs.List.{AllByRecursion}
 use Rattle.std.proofs.lemmas.Bool.{cases_Bool, cond-true, cond-false}
@@ -30,8 +30,8 @@ abbrev pub is_change : Entry → Bool
 is_change (entry.Step at raw rolls) = false
 is_change (entry.Change at before new sf) = true
 
--- True if a row of a meter's history has an entry of the row's kind, and is not voided (cancelled)
--- if it sets the counter.
+-- True if the entry in a row of a meter's history fits the row's kind, and the row is not voided
+-- (cancelled) if the entry sets the counter.
 pub record IsFormed (row : EntryRow) : Type 0 where
   pub kind : sets row.kind ≡ is_change row.entry
   pub stands : is_change row.entry ≡ true → row.stands ≡ true
@@ -62,8 +62,8 @@ rolled_formed last row h =
       | inr e ↦ subst IsFormed (sym (cond-false _ _ _ e)) h
     ]
 
--- If a reading in a meter's history is marked as voided (cancelled), its row is still a valid row
--- of the history.
+-- If a reading in a meter's history is marked as voided (cancelled), its row still satisfies
+-- `IsFormed`: the entry fits the row's kind.
 struck_formed : (row : EntryRow) → is_read row.kind row.entry ≡ true → IsFormed (record row { stands = false })
 struck_formed row read =
     by_read (λ k e. IsFormed (record { place = row.place; kind = k; entry = e; stands = false }))
@@ -103,8 +103,8 @@ rows_are_formed meter (Voided place ∷ lines) h =
     let may = all_three around.row.stands (is_read around.row.kind around.row.entry) (is_free around.next) h.0.voidable in
     void_formed meter.opening place (rows_of meter.opening lines) around h.0.there may.1 (rows_are_formed meter lines h.1)
 
--- True if a row of a meter's history has the right mark: it is marked as voided (cancelled) if and
--- only if the history voids the entry at its index.
+-- True if a row of a meter's history is marked as voided (cancelled) if and only if the history
+-- voids the entry at the row's index.
 abbrev pub StandsBy : Journal → EntryRow → Type 0
 StandsBy whole row = row.stands ≡ not (is_voided row.place whole)
 

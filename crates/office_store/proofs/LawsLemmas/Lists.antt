@@ -42,14 +42,16 @@ abbrev pub InOrder : {X : Type 0} → (Before : X → X → Type 0) → List X �
 InOrder Before [] = Unit {0}
 InOrder Before (x ∷ xs) = AllByRecursion (Before x) xs × InOrder Before xs
 
--- Proofs about lists that are sorted by an asymmetric order.
+-- Proofs that two lists that are sorted by an asymmetric order are equal if they have the same
+-- elements.
 module _ {X : Type 0} (Before : X → X → Type 0) (one_way : (x y : X) → Before x y → Before y x → ⊥) where
   same_head : (x y : X) (xs ys : List X) → InOrder Before (x ∷ xs) → InOrder Before (y ∷ ys) → Among x (y ∷ ys) → Among y (x ∷ xs) → x ≡ y
   same_head x y xs ys h k (inl is) other = is
   same_head x y xs ys h k (inr there) (inl is) = sym is
   same_head x y xs ys h k (inr there) (inr here) = absurd (one_way x y (all_among (Before x) xs y h.0 here) (all_among (Before y) ys x k.0 there))
 
-  -- If an element of a list differs from the first element, it is in the rest of the list.
+  -- If an element of a list differs from the first element, the list without its first element has
+  -- the element.
   not_first : (x y z : X) (ys : List X) → x ≡ y → Before x z → Among z (y ∷ ys) → Among z ys
   not_first x y z ys e before (inl is) = absurd (let b : Before x x = subst (Before x) (is ∙ sym e) before in one_way x x b b)
   not_first x y z ys e before (inr there) = there
@@ -65,11 +67,13 @@ module _ {X : Type 0} (Before : X → X → Type 0) (one_way : (x y : X) → Bef
       (all_both (Before x) (λ z. Among z (y ∷ ys)) (λ z. Among z ys) (λ z before. not_first x y z ys e before) xs h.0 there.1)
       (all_both (Before y) (λ z. Among z (x ∷ xs)) (λ z. Among z xs) (λ z before. not_first y x z xs (sym e) before) ys k.0 here.1))
 
-  -- If two sorted lists have the same elements, the lists are equal.
+  -- If two lists are both sorted by the order `Before`, and one is a permutation of the other, then
+  -- they are equal.
   pub same_in_order : (xs ys : List X) → InOrder Before xs → InOrder Before ys → IsPermutation xs ys → xs ≡ ys
   same_in_order xs ys h k p = same_elements xs ys h k (among_permuted xs ys p) (among_permuted ys xs (IsPermutation-sym xs ys p))
 
--- Lemmas on mapping lists by injective functions.
+-- Lemmas on injective functions: if two lists are equal after an injective function is applied to
+-- each element, the lists are equal.
 
 abbrev pub IsInjective : {X Y : Type 0} → (X → Y) → Type 0
 IsInjective {X} f = (x y : X) → f x ≡ f y → x ≡ y
@@ -89,15 +93,15 @@ map_undone f one (x ∷ xs) (y ∷ ys) e =
 pub permuted_back : {X Y : Type 0} (f : X → Y) → IsInjective f → (xs ys : List X) → IsPermutation (map f xs) (map f ys) → IsPermutation xs ys
 permuted_back f one xs ys h = let moved = unmapped f xs (map f ys) h in subst (IsPermutation xs) (sym (map_undone f one ys moved.0 moved.2)) moved.1
 
--- If two lists have the same table rows, and a row determines its element, the lists have the same
--- elements.
+-- If two lists are stored as the same table rows, and each row determines its element, the lists
+-- have the same elements.
 pub one_table : {X Y : Type 0} (columns : X → Y) → IsInjective columns → (xs ys : List X) (rows : List Y)
     → IsPermutation (map columns xs) rows → IsPermutation (map columns ys) rows → IsPermutation xs ys
 one_table columns one xs ys rows h k =
     permuted_back columns one xs ys (IsPermutation-trans (map columns xs) rows (map columns ys) h (IsPermutation-sym (map columns ys) rows k))
 
--- If two lists agree element by element, and two elements that agree are equal, then the lists are
--- equal.
+-- If the elements of two lists are related at each index, and related elements are equal, then the
+-- lists are equal.
 pub same_by_parts : {X : Type 0} (R : X → X → Type 0) (P Q : X → Type 0) → ((x y : X) → R x y → P x → Q y → x ≡ y)
     → (xs ys : List X) → AllZip R xs ys → AllByRecursion P xs → AllByRecursion Q ys → xs ≡ ys
 same_by_parts R P Q same [] [] h p q = refl
@@ -105,7 +109,8 @@ same_by_parts R P Q same [] (y ∷ ys) h p q = absurd h
 same_by_parts R P Q same (x ∷ xs) [] h p q = absurd h
 same_by_parts R P Q same (x ∷ xs) (y ∷ ys) h p q = ap₂ ◌∷◌ (same x y h.0 p.0 q.0) (same_by_parts R P Q same xs ys h.1 p.1 q.1)
 
--- If two tables have the same rows, the same rows of both tables pass a test.
+-- If two tables have the same rows, the rows of both tables that pass a test are the same, up to
+-- order.
 pub of_passing : {X : Type 0} (p : X → Bool) (rows others xs ys : List X) → IsPermutation rows others
     → IsPermutation (filter p rows) xs → IsPermutation (filter p others) ys → IsPermutation xs ys
 of_passing p rows others xs ys h k l =

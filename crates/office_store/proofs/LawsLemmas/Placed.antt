@@ -1,4 +1,4 @@
--- Proofs that numbered rows determine the elements that they encode.
+-- Proofs that rows which are numbered by index determine the list of elements that they encode.
 use Rattle.std.proofs.Common.{◌≡◌, ℕ, ◌+◌, ◌<◌, ◌≤◌, List, [], ◌∷◌, length, sym, IsPermutation, arith}
 use Rattle.std.specs.List.{AllByRecursion, AllZip}
 use Rattle.std.proofs.lemmas.List.Elements.{same_from_all_zip}
@@ -44,8 +44,8 @@ module _ {X Y : Type 0} (key : Y → ℕ) (row : ℕ → X → Y) (keyed : (plac
         placed_rise (before + 1) xs,
       )
 
--- Lemmas that, if two lists have the same numbered rows, the relation `R` holds between their
--- elements at each index.
+-- Suppose that the relation `R` holds between two elements with equal rows. If the numbered rows of
+-- two lists are equal, `R` holds between the lists' elements at each index.
 module _ {X Y : Type 0} (row other : ℕ → X → Y) (R : X → X → Type 0) (reports : (m n : ℕ) (x y : X) → row m x ≡ other n y → R x y) where
   zip_placed : (xs ys : List X) → placed row xs ≡ placed other ys → AllZip R xs ys
   zip_placed [] [] e = tt
@@ -75,7 +75,8 @@ module _ {X Y : Type 0} (row other : ℕ → X → Y) (R : X → X → Type 0) (
         zip_placed_on 0 0 xs ys
         (same_in_order (Rises key) (rises_one_way key) (placed_on row 0 xs) (placed_on other 0 ys) (placed_rise key row keyed 0 xs) (placed_rise key other other_keyed 0 ys) h)
 
--- If two lists have the same numbered rows, and a row determines its element, the lists are equal.
+-- Suppose that the rows of two lists, each with the index of its element, are the same rows in any
+-- order. If each row determines its element, the lists are equal.
 pub placed_same : {X Y : Type 0} (row : ℕ → X → Y) (reports : (m n : ℕ) (x y : X) → row m x ≡ row n y → x ≡ y) (key : Y → ℕ)
     (keyed : (place : ℕ) (x : X) → key (row place x) ≡ place) (xs ys : List X) → IsPermutation (placed row xs) (placed row ys) → xs ≡ ys
 placed_same row reports key keyed xs ys h =

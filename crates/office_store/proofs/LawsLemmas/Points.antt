@@ -76,7 +76,7 @@ one_alike a b h p q =
     let scale : a.scale ≡ b.scale = read_alike scale_text scale_spelled _ _ p.scale q.scale h.scale in
     λ i. record { name = h.name i; function = h.function i; area = h.area i; address = h.address i; kind = kind i; scale = scale i }
 
--- Lemmas on the latest point list of a device.
+-- Lemmas that a device's latest point list is determined by its rows in the table `points`.
 
 abbrev pub IsPut : Option DeviceList → Type 0
 IsPut None = Unit {0}

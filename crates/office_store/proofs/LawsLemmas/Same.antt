@@ -89,7 +89,8 @@ module _ (stand : RowsStand) (once : ListsArePlannedOnce) (zone others_zone : Li
       (one_table point_columns columns.one_point a.points.rows b.points.rows (content list_tree.points) a.points.there b.points.there)
       (a.points.each device) (b.points.each device))
 
-  -- Lemmas on meters and their entries in two lists of records with the same tables.
+  -- Lemmas that, if the same tables encode two lists of records, both lists have the same meters
+  -- with the same entries.
 
   same_entries : (meter : List ℕ) → IsPermutation (entries_of facts meter) (entries_of others meter)
   same_entries meter =
@@ -97,22 +98,22 @@ module _ (stand : RowsStand) (once : ListsArePlannedOnce) (zone others_zone : Li
       (one_table entry_columns columns.one_entry a.entries.rows b.entries.rows (content entry_tree.entries) a.entries.there b.entries.there)
       (a.entries.each meter) (b.entries.each meter)
 
-  -- If two lists of records have the same tables, each meter has the same entries in both lists.
+  -- If the same tables encode two lists of records, each meter has the same entries in both lists.
   meter_entries : (o p : Opening) → IsInstalled facts o → opening_of others o.meter ≡ Some p
       → IsPermutation (entered_rows o (rows_of facts o)) (entered_rows p (rows_of others p))
   meter_entries o p here there =
       subst (λ rows. IsPermutation rows (entered_rows p (rows_of others p))) (ap (entries_at facts) here)
       (subst (IsPermutation (entries_of facts o.meter)) (ap (entries_at others) there) (same_entries o.meter))
 
-  -- True if two installations of meters have the same meter, accounting register (named energy
-  -- counter) and greatest power.
+  -- True if two openings (records that install meters) have the same meter, accounting register
+  -- (named energy counter) and greatest power.
   record IsAlike (o p : Opening) : Type 0 where
     meter : o.meter ≡ p.meter
     register : o.register ≡ p.register
     ceiling : o.ceiling ≡ p.ceiling
 
-  -- True if one list of records has a meter's installation, and the tables of the other list have
-  -- the same range of the meter's counter.
+  -- True if one list of records has the opening `o` (the record that installs a meter), and the
+  -- other list has an opening with the same meter and counter range.
   record IsKnown (o : Opening) : Type 0 where
     here : IsInstalled facts o
     range : Among (ranged o) (map ranged (openings_in others))

@@ -1,5 +1,5 @@
--- Proofs that the rows around a meter entry in the tables encode the entries around it in the
--- records.
+-- Proofs that the rows before and after a meter entry in the table `entries` encode the entries
+-- before and after it in the store's records.
 use Rattle.std.proofs.Common.{◌≡◌, ℕ, ℤ, ◌+◌, ◌≤◌, ◌<◌, ◌==◌, ◌&&◌, ◌||◌, not, Bool, true, false, cond, inl, inr, ◌⊎◌, List, [], ◌∷◌, map, filter, length, Option, Some, None, option_map, bytes_eq, refl, sym, ap, ap₂, subst, ◌∙◌, arith, eq-eqb, eqb-true, IsPermutation}
 use Rattle.std.specs.List.{list_any, AllByRecursion}
 use Rattle.std.specs.Option.{option_or}
@@ -61,7 +61,8 @@ named_of meter place (v ∷ vs) =
 pub names_are : (facts : List Fact) (meter : List ℕ) (place : ℕ) → names meter place (map voided (voids_in facts)) ≡ is_voided place (journal_of facts meter)
 names_are facts meter place = named_of meter place (map voided (voids_in facts)) ∙ voids_are meter place facts
 
--- Lemmas on the entries of a meter's history between two indices.
+-- Defines which entries between two indices of a meter's history are voided (cancelled), and proves
+-- which indices have rows in `entries`.
 
 -- True if every entry in a meter's history with an index above `low` and below `high` is voided
 -- (cancelled).
@@ -104,7 +105,8 @@ module _ (o : Opening) where
         | inr off ↦ grind (arith, nat_tests, rest, at, off)
       ]
 
-  -- Lemmas that the row of `entries` at an index encodes the meter's entry at this index.
+  -- Lemmas that a meter's row of `entries` with a given index encodes the meter's entry at this
+  -- index.
 
   pub record AtRow (place : ℕ) (rows : List EntryRow) (e : stored.EntryRow) : Type 0 where
     pub around : Around
@@ -133,8 +135,8 @@ module _ (o : Opening) where
         (λ e h same. past_row place row rows e.entry numbered (h same)) (entered_rows o rows) (entries_at_rows place rows numbered.1 late),
   )
 
-  -- Lemmas that the counter's state before an entry is the state after the last earlier entry that
-  -- is not voided (cancelled).
+  -- Lemmas that the counter's state before a meter entry is the state after the last earlier entry
+  -- that is not voided (cancelled).
 
   counter_of_row : (sf : ℤ) (last : Last) (place : ℕ) (k : EntryKind) (e : Entry) (stands : Bool) → HasShape k e → sf ≡ (after last e).sf
       → counter_after (entry_row sf (record { place = place; kind = k; entry = e; stands = stands })) ≡ after last e
@@ -212,8 +214,8 @@ module _ (o : Opening) where
         found_rest_before place row None around h = absurd (let e = h in cc)
         found_rest_before place row (Some rest) around h = (rest, refl, ap (λ (a : Around). a.before) (sym (same_Some (passed row rest) around h)))
 
-    -- Lemmas on the first entry that follows a given index and is not voided (cancelled), in the
-    -- rows and in the meter's history.
+    -- Lemmas on the first entry after a given index that is not voided (cancelled): the rows of
+    -- `entries` and the meter's history have the same one.
 
     found_rest_next : (row : EntryRow) (o : Option Around) (around : Around) → option_map (passed row) o ≡ Some around → (rest : Around) × (o ≡ Some rest) × (around.next ≡ option_or rest.next (if_standing row))
     found_rest_next row None around h = absurd (let e = h in cc)
@@ -283,8 +285,8 @@ module _ (o : Opening) where
   opening_alone [] numbered = (λ is. refl, tt)
   opening_alone (row ∷ rows) numbered = ((λ (is : row.place ≡ 1). absurd (let at = numbered.0 in omega (arith, is, at))), opening_alone rows numbered.1)
 
--- Lemmas that, if all of a meter's rows at an index have a property, the row that a query finds
--- there has the property.
+-- Lemmas that, if all of a meter's rows with an index have a property, the row that a query finds
+-- by this index has the property.
 
 module _ (meter : List ℕ) (o : Opening) (rows : List EntryRow) (table : List Entered) (are : IsPermutation (filter (is_of meter) table) (entered_rows o rows)) where
   lifted : (Q : Entered → Type 0) (place : ℕ) → AllByRecursion (λ (e : Entered). e.entry.place ≡ place → Q e) (entered_rows o rows) → AllByRecursion (λ e. is_entry meter place e ≡ true → Q e) table

@@ -40,8 +40,8 @@ use Rattle.office_store.proofs.Energy.{found_recorded}
 use Rattle.office_store.specs.Metering.Entries.{AreJournal, ShowsEntries, ShowsVoids, FindsJournal, row_among, IsFaultOfJournal, CanBePlaced}
 use Rattle.office_store.proofs.MeteringLemmas.Journals.{numbered, journal_back, entries_in_order}
 
--- If a search of the records for a meter's installation finds a record, this record has the meter's
--- name.
+-- If a search of the store's records for a meter's installation finds a record, this record has the
+-- meter's name.
 named : (facts : List Fact) (meter : List ℕ) (o : Opening) → opening_of facts meter ≡ Some o → o.meter ≡ meter
 named facts meter o there = same_text o.meter meter (find_passes (λ (x : Opening). same x.meter meter) (openings_in facts) o there)
 
@@ -77,8 +77,8 @@ journal_is journals stand change facts meter entries voids rows shown void are =
     ap reverse (are shown.entries void.voids shown.shown void.shown ∙ ap (filter_map (row_among void.voids)) (shown.all o there) ∙ journal_back journals stand change facts o void.lawful recorded void.voids all)
     ∙ reverse-reverse (rows_of facts o)
 
--- If the records have a state of a meter, the meter was installed. The meter's entry at an index
--- then follows from the record of the installation and the later entries.
+-- If the store's records have a state of a meter, the meter was installed. The meter's entry at an
+-- index then follows from its opening (the record that installs it) and the later entries.
 by_opening : (facts : List Fact) (place : ℕ) (whole : Installation) (found : Option EntryContext) (opening : Option Opening) → Some whole ≡ option_map (installation_of facts) opening
     → ((o : Opening) → opening ≡ Some o → whole ≡ installation_of facts o → found ≡ option_map (place_in facts o) (row_at place (rows_of facts o)))
     → found ≡ option_and_then (λ o. option_map (place_in facts o) (row_at place (rows_of facts o))) opening
@@ -123,15 +123,16 @@ placed_found facts o place whole before rows firsts index row next whole_is rows
     ∙ ap (λ (w : Installation). standing w.opening (entries_in around.before) w.ended) whole_is in
     ap (λ (b : Installation). Some (let p : EntryContext = record { before = b; row = row; next = next } in p)) was ∙ sym (ap (option_map (place_in facts o)) at)
 
--- If the meter entry at an index satisfies `CanBePlaced`, the energy before this entry can be
--- computed. It follows from the earlier entries that are not voided (cancelled).
+-- Suppose that the meter entry at an index satisfies `CanBePlaced`; in particular, the rules for
+-- meter entries accept the earlier entries. Then the energy before this entry can be computed from
+-- the earlier entries that are not voided (cancelled).
 pub account_before : (o : Opening) (place index : ℕ) (rows firsts : List EntryRow) (row : EntryRow) (next : Option EntryRow) → row_at place (latest_first rows) ≡ Some (record { before = latest_first (take index rows); row = row; next = next })
     → firsts ≡ take index rows → CanBePlaced o rows place → HasAccount (installed o) (entries_in (latest_first firsts))
 account_before o place index rows firsts row next found_at is can =
     subst (λ (rs : List EntryRow). HasAccount (installed o) (entries_in (latest_first rs))) (sym is) (can.account (record { before = latest_first (take index rows); row = row; next = next }) found_at)
 
--- If the rules accepted all records, the state of a meter before each of its entries can be
--- computed.
+-- If the records are lawful (the store's rules accepted each after the earlier ones), the state of
+-- a meter before each of its entries can be computed.
 can_be_placed : InstallationsAreInRange → JournalsFit → RowsStand → PlacesWereKept → (facts : List Fact) (o : Opening) (place : ℕ) (rows : List EntryRow) → AreLawful facts → IsRecorded facts o
     → latest_first rows ≡ rows_of facts o → CanBePlaced o rows place
 can_be_placed ranges journals stand kept facts o place rows lawful there are =

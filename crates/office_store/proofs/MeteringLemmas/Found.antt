@@ -1,5 +1,5 @@
--- Proofs that the rows of the tables determine each meter of the records: the record of its
--- installation, and its state.
+-- Proofs that the rows of the tables determine two things of each meter in the store's records: its
+-- opening (the record that installs it), and its state.
 use Rattle.std.proofs.Common.{◌≡◌, ℕ, ◌+◌, ◌==◌, ◌&&◌, Bool, true, false, List, [], ◌∷◌, map, filter, length, Option, Some, None, option_map, string_bytes, bytes_eq, refl, sym, ap, subst, ◌∙◌, arith, eqb-true, IsPermutation}
 use Rattle.std.specs.List.{AllByRecursion}
 use Rattle.std.proofs.lemmas.Bool.{and_parts}
@@ -33,8 +33,8 @@ use Rattle.office_store.proofs.Placed.{last_counts}
 use Rattle.office_store.specs.Metering.Meters.{IsRowOf, FindsRow, FindsRange, FindsFirst, CountsOpenings, opening_from, standing_from, IsStanding}
 use Rattle.office_store.proofs.MeteringLemmas.Picked.{found_has, none_placed, none_mapped, none_passes, last_placed, all_placed, all_mapped}
 
--- If the rules accepted all records, no meter was installed twice, so a search by the meter finds
--- its only installation.
+-- If the records are lawful (the store's rules accepted each after the earlier ones), no meter was
+-- installed twice. So a search by the meter finds its only installation.
 pub alone : (facts : List Fact) → AreLawful facts → AllByRecursion (λ (o : Opening). opening_of facts o.meter ≡ Some o) (openings_in facts)
 alone facts lawful = recursion_from_All _ _ (each_found (λ (o : Opening). o.meter) (openings_in facts) (openings_apart facts lawful))
 
@@ -125,7 +125,8 @@ first_found law facts meter rows lawful each (Some entry) h = λ opening there.
     let place : y.entry.place ≡ 1 = eqb-true y.entry.place 1 at_one in
     h.1 ∙ it.0 parts.0 place
 
--- The rows of three tables together encode a meter's first entry and its current state.
+-- The rows that three queries find for a meter in `installations`, `ranges` and `entries` together
+-- encode the meter's first entry and its current state.
 
 pub opening_is : (facts : List Fact) (o : Opening) (row : stored.Installation) (range : ℕ) (first : EntryRow) → IsRowOf facts o row → FindsRange (string_bytes row.meter) facts (Some range) → FindsFirst (string_bytes row.meter) facts (Some first)
     → opening_from row range first ≡ o
@@ -159,28 +160,28 @@ standing_found facts row m x y range first made found named ranged_is first_is m
     let two = subst (λ (t : List ℕ). FindsFirst t facts (Some first)) named (subst (λ (z : Option EntryRow). FindsFirst m facts z) first_is begins) in
     is ∙ standing_is facts o made row of (made_is ∙ opening_is facts o row range first of one two)
 
--- If a query finds a meter's row in `installations`, the look-up returns the state that the records
--- have of this meter.
+-- If a query finds a meter's row in `installations`, the look-up that ran the query returns the
+-- state that the store's records have of this meter.
 pub found_is : (facts : List Fact) (o : Option Opening) (x : Option stored.Installation) (row : stored.Installation) (found : Installation) → x ≡ Some row → FindsRow facts o x → IsStanding row facts found
     → Some found ≡ option_map (installation_of facts) o
 found_is facts None x row found is finds stands = absurd (let e = sym finds ∙ is in cc)
 found_is facts (Some o) x row found is finds stands = ap Some (stands o (subst (FindsRow facts (Some o)) is finds))
 
--- Lemmas that, if the rules accepted all records, the values in the rows that queries find are
--- valid.
+-- Lemmas on lawful records (each accepted by the store's rules after the earlier ones). The rows
+-- that queries find have numbers in their ranges and valid names.
 
 pub in_range : (facts : List Fact) (o : Opening) → IsSound (installation_of facts o) → IsSound (installation_of facts o)
 in_range facts o h = record { range = h.range; ceiling = h.ceiling; raw = h.raw; scale = h.scale; total = h.total }
 
--- If the names in all recorded openings (records of installations) are valid, so are the names in a
--- row of `installations` that a query finds.
+-- If the names in all recorded openings (records that install meters) are valid, the names in a row
+-- of `installations` that a query finds are valid too.
 pub named_row : (facts : List Fact) (o : Opening) (row : stored.Installation) → IsRowOf facts o row → AllByRecursion HasNames (openings_in facts) → IsNamed row
 named_row facts o row is all =
     let names = all_found HasNames (λ (x : Opening). same x.meter o.meter) (openings_in facts) o all is.alone in
     record { meter = ap is_name is.row.meter ∙ names.meter; register = ap is_name is.row.register ∙ names.register }
 
--- If a query finds a meter's row in `installations`, the records contain the installation of this
--- meter.
+-- If a query finds a meter's row in `installations`, the store's records contain the installation
+-- of this meter.
 pub no_opening : (facts : List Fact) (o : Opening) (row : stored.Installation) (meter : List ℕ) → meter ≡ string_bytes row.meter → IsRowOf facts o row → opening_of facts meter ≡ None → ⊥
 no_opening facts o row meter named is none =
     let there : opening_of facts meter ≡ Some o = ap (opening_of facts) (named ∙ is.row.meter) ∙ is.alone in
@@ -189,17 +190,20 @@ no_opening facts o row meter named is none =
 pub recorded_row : (facts : List Fact) (o : Opening) (row : stored.Installation) → IsRowOf facts o row → IsRecorded facts o
 recorded_row facts o row is = found_recorded (λ (x : Opening). same x.meter o.meter) (openings_in facts) o is.alone
 
--- If a look-up finds the row of an installation, the numbers in this row are in their ranges.
+-- If the records are lawful (accepted by the store's rules) and a look-up finds a meter's row in
+-- `installations`, the numbers in this row are in their ranges.
 pub not_unsound : InstallationsAreInRange → (facts : List Fact) (o : Opening) (row : stored.Installation) (made : Opening) → AreLawful facts → IsRowOf facts o row → made ≡ o → ¬ IsSound (standing_from made row.row) → ⊥
 not_unsound law facts o row made lawful is opening unsound =
     unsound (subst IsSound (sym (standing_is facts o made row is opening)) (in_range facts o ((law facts lawful).recorded o (recorded_row facts o row is))))
 
--- If a query finds a row in `installations`, the row encodes an installation of the records.
+-- If a query for a meter finds a row in `installations`, the store's records have an opening (the
+-- record that installs the meter) that this row encodes.
 pub found_row : (facts : List Fact) (o : Option Opening) (row : stored.Installation) → FindsRow facts o (Some row) → (opening : Opening) × IsRowOf facts opening row
 found_row facts None row finds = absurd (let e = finds in cc)
 found_row facts (Some o) row finds = (o, finds)
 
--- If a meter has no row in `installations`, the records contain no installation of this meter.
+-- If a meter has no row in `installations`, the store's records contain no installation of this
+-- meter.
 pub none_found : (facts : List Fact) (o : Option Opening) → FindsRow facts o None → None ≡ option_map (installation_of facts) o
 none_found facts None finds = refl
 none_found facts (Some o) finds = absurd finds

@@ -1,5 +1,6 @@
--- Proofs about passing the rows of a table one by one to a sink, a visitor that the caller
--- supplies.
+-- Proofs for queries that pass the rows of a table one by one to a sink (a visitor that the caller
+-- supplies). If a query succeeds, the sink received exactly the rows that follow from the store's
+-- records.
 use Rattle.std.proofs.Common.{◌≡◌, ◌⊎◌, inl, inr, ℕ, List, [], ◌∷◌, Ok, Err, Result, OnOk, IfErr, IsTrue, IsErrAnd, refl, sym, subst}
 use Rattle.std.specs.List.{AllByRecursion}
 use Rattle.sqlite.specs.Store.{Ghosts}
@@ -19,7 +20,8 @@ use Rattle.office_store.specs.Metering.Looking.{HandsOn}
 use Rattle.office_store.proofs.FindingLemmas.Looking.{Touched, looks_asked, seen, since}
 
 module _ {S K T : Type 0} (g : Ghosts S) (takes : K → T → K → Type 0) (IsRow : T → Type 0) (says : List Fact → List T) (AreSound : List Fact → Type 0) where
-  -- If a call before a streaming query fails, the query passes no row to the caller's visitor.
+  -- If the call before a streaming query (one that passes its rows to the caller's visitor) fails,
+  -- the visitor gets no row.
   pub not_asked : (a b : Held S) (sink : K) (r : Result (Unit {0}) RowFault) (Why : RowFault → Type 0) → ((zone : List ℕ) → OnlyLooks g zone a b)
       → ((zone : List ℕ) (facts : List Fact) → HoldsFacts g zone a facts → HasCleanDisk (state g b) → IfErr r (IsFault (state g a) (state g b) (AreSound facts))) → IsErrAnd r Why → HandsOn g a b takes sink sink r IsRow says AreSound
   not_asked a b sink (Ok x) Why looks fault is = absurd is
@@ -32,8 +34,8 @@ module _ {S K T : Type 0} (g : Ghosts S) (takes : K → T → K → Type 0) (IsR
     mode = (looks []).mode;
   }
 
-  -- True if the tables encode the records, and `rows` is the list of the rows that the streaming
-  -- query reads from the tables.
+  -- True if the tables encode the records `facts`, and `rows` is the list of the rows that the
+  -- streaming query reads from the tables.
   pub record Reports {Tables : Type 0} (Have : Tables → Content → Type 0) (AreRowsOf : Tables → List T → Type 0) (IsSound : Tables → Type 0) (facts : List Fact) (content : Content) : Type 0 where
     pub rows : Tables
     pub there : Have rows content

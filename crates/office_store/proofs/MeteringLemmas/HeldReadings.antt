@@ -1,4 +1,5 @@
--- Proofs about the order of the rejected readings in the table `holds`.
+-- Proofs that the rows of the table `holds` for a meter are the meter's rejected readings, the
+-- latest first.
 use Rattle.std.proofs.Common.{◌≡◌, ℕ, ◌+◌, ◌≤◌, ◌&&◌, min, nat_le, nat_lt, Bool, true, false, cond, List, [], ◌∷◌, map, filter, reverse, length, refl, sym, ap, ap₂, ◌∙◌}
 use Rattle.std.specs.List.{AllByRecursion}
 use Rattle.sqlite_keyed.proofs.ListLemmas.{all_of, all-filter, filter-map, filter_all, ascending-filter}
@@ -18,12 +19,12 @@ use Rattle.office_store.specs.Holds.{IsSoundReading, reading_of, is_of, is_betwe
 use Rattle.office_store.proofs.FindingLemmas.Rows.{all_reverse, in_turn, placed_falls}
 use Rattle.office_store.proofs.MeteringLemmas.Spans.{one_by_one, bounded_rows}
 
--- If the numbers of a rejected reading are in their ranges, its row in `holds` can be read.
+-- If the numbers of all rejected readings are in their ranges, all rows of `holds` can be read.
 pub all_sound : (hs : List HeldReading) → AllByRecursion IsSoundReading hs → AreSoundHolds (placed held_row hs)
 all_sound [] sound = tt
 all_sound (h ∷ hs) sound = (sound.0, all_sound hs sound.1)
 
--- True if the timestamp of a rejected reading is at most the latest timestamp that the store
+-- True if the timestamp of a rejected reading is not later than the latest timestamp that the store
 -- allows.
 abbrev InTime : HeldReading → Type 0
 InTime h = h.at ≤ latest_moment

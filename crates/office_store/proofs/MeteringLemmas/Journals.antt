@@ -40,7 +40,8 @@ use Rattle.office_store.specs.Metering.Entries.{row_from, row_among, names}
 use Rattle.office_store.proofs.MeteringLemmas.Shapes.{HasShape, IsPlain, plain}
 use Rattle.office_store.proofs.MeteringLemmas.Orders.{one_order}
 
--- Lemmas that reading one row of `entries` returns the corresponding entry in the meter's history.
+-- Lemmas that reading one row of `entries` returns the entry that the meter's history has at the
+-- row's index.
 
 scale_is : (stands : Bool) (sf new : ℤ) → (stands ≡ false → false ≡ true) → (stands ≡ true → sf ≡ new) → sf ≡ new
 scale_is true sf new read there = there refl

@@ -1,4 +1,5 @@
--- Proofs about the list of a meter's entries that begins at a given index.
+-- Proofs that the list of a meter's entries from a given index, which is built from table rows, has
+-- the entries of the store's records.
 use Rattle.std.proofs.Common.{◌≡◌, ℕ, List, [], reverse, Option, Some, None, option_map, refl, sym, ap, ap₂, subst, ◌∙◌}
 use Rattle.std.proofs.lemmas.Option.{same_Some}
 use Rattle.meter_journal.specs.declared.lines.EntryRow.{EntryRow}

@@ -1,5 +1,5 @@
--- Proofs about a loop over rows: the row that the loop reads next encodes the next element of the
--- list.
+-- Proofs about a loop over the rows of a list's elements: the row that the loop reads next encodes
+-- the next element.
 use Rattle.std.proofs.Common.{◌≡◌, ℕ, zero, suc, ◌+◌, ◌<◌, ◌≤◌, ◌||◌, Bool, true, false, List, [], ◌∷◌, ◌++◌, map, take, drop, length, get_or, refl, sym, ap, ◌∙◌, arith, take-append-drop}
 use Rattle.std.specs.List.{list_any}
 use Rattle.std.proofs.lemmas.List.Folds.{list_any-append}
@@ -18,7 +18,8 @@ next_of f (x ∷ xs) (suc n) y lt is =
     let e : suc n + 1 ≡ suc (n + 1) = omega arith in
     record { at = rest.at; seen = rest.seen; more = ap (λ k. take k (x ∷ xs)) e ∙ ap (λ l. x ∷ l) rest.more }
 
--- If `ys` has the rows of a list's elements, the next row of `ys` encodes the next element.
+-- If `ys` has the rows of the elements of a list, in order, the next row of `ys` encodes the next
+-- element of the list.
 pub next_shown : {X Y : Type 0} (f : X → Y) (xs : List X) (ys : List Y) (n : ℕ) (y : Y) → ys ≡ map f xs → n < length ys → y ≡ get_or ys n y → IsNext f xs n y
 next_shown f xs ys n y shown lt is =
     let long = ap length shown in

@@ -1,4 +1,5 @@
--- Proofs that the rows around a meter entry determine the entry that the records have.
+-- Proofs that the rows before and after a meter entry in the tables determine the entry that the
+-- store's records have.
 use Rattle.std.proofs.Common.{◌≡◌, ℕ, ◌+◌, ◌<◌, ◌≤◌, ◌==◌, not, Bool, true, false, inl, inr, ◌⊎◌, List, [], ◌∷◌, map, filter, Option, Some, None, option_map, refl, sym, ap, ap₂, subst, ◌∙◌, arith, IsPermutation}
 use Rattle.std.specs.Prelude.{IfSome, nat_lt}
 use Rattle.std.specs.List.{AllByRecursion, list_any}
@@ -43,8 +44,8 @@ use Rattle.office_store.proofs.MeteringLemmas.Around.{AtRow, AreStruck, IsNextRo
 use Rattle.office_store.proofs.MeteringLemmas.Journals.{IsReported, back_by, numbered, one_back, voids_are}
 use Rattle.office_store.proofs.MeteringLemmas.Shapes.{IsPlain, found_rest, found_there, plain}
 
--- Lemmas on a search that queries one index after another for the nearest entry that is not voided
--- (cancelled).
+-- Lemmas on a search for the nearest entry of a meter that is not voided (cancelled). The search
+-- queries one index after another, and all entries that it passes over are voided.
 
 pub none_between : (vs : List Voided) (low high : ℕ) → high ≤ low + 1 → AreVoided vs low high
 none_between vs low high none place above below = absurd (omega (arith, none, above, below))
@@ -61,7 +62,7 @@ further_up vs low p high next are is place above below = elim (cases_Bool (nat_l
   | inr here ↦ let same : p ≡ place = grind (arith, nat_tests, here, below, next) in subst (λ q. list_any (names q) vs ≡ true) same (sym is)
 ]
 
--- If all rows of a meter have a property, the row that a search by index finds has it too.
+-- If all rows of a meter have a property, the row that a search by index finds has this property.
 
 row_holds : (P : EntryRow → Type 0) (place : ℕ) (rows : List EntryRow) (around : journal.Around) → AllByRecursion P rows → row_at place rows ≡ Some around → P around.row
 row_holds P place [] around all h = absurd (let e = h in cc)
@@ -74,8 +75,8 @@ row_holds P place (row ∷ rows) around all h = elim (cases_Bool (row.place == p
       subst P (sym it.2) (row_holds P place rows it.0 all.1 it.1)
 ]
 
--- Lemmas that a meter entry that is built from its row and the rows around it equals the recorded
--- entry.
+-- Lemmas that, if a meter entry is built from its row and the rows before and after it, the result
+-- equals the recorded entry.
 
 module _ (journals : JournalsFit) (stand : RowsStand) (change : VoidsChangeTwoRows) (kept : JournalsAreKept) (places : PlacesWereKept) (facts : List Fact) (meter : List ℕ) (o : Opening) (there : opening_of facts meter ≡ Some o) (lawful : AreLawful facts)
     (vs : List Voided) (all : IsPermutation (filter (is_void_of meter) (map voided (voids_in facts))) vs) where
@@ -167,7 +168,8 @@ module _ (journals : JournalsFit) (stand : RowsStand) (change : VoidsChangeTwoRo
         subst (λ (q : EntryContext). ReportsNear facts meter place (Some q)) (sym all_same)
         (reports_near facts meter place whole (Some (place_in facts o around)) whole_is found_at (within_whole kept places facts lawful meter place))
 
--- If a meter entry is built from the rows around it, the result equals the entry in the records.
+-- If a meter entry is built from its row and the rows before and after it, the result equals the
+-- entry in the store's records.
 pub seen_rightly : JournalsFit → RowsStand → VoidsChangeTwoRows → JournalsAreKept → PlacesWereKept → (facts : List Fact) (meter : List ℕ) (place : ℕ) → 2 ≤ place → (vs : List Voided) → IsPermutation (filter (is_void_of meter) (map voided (voids_in facts))) vs
     → (sides : Sides) → AreSides vs place sides → (seen : stored_around.Around) → FindsAround meter place sides.before sides.after facts seen → (whole : Installation) (p : EntryContext) → Some whole ≡ meter_of facts meter → IsSeen whole seen sides.stands p
     → ReportsNear facts meter place (Some p)
@@ -181,7 +183,7 @@ if_seen facts meter place whole seen stands None h reports = tt
 if_seen facts meter place whole seen stands (Some p) h reports = λ whole_is. reports p whole_is h
 
 -- If a meter entry is built from the rows of `entries` and `voids` (cancelled entries), the result
--- equals the entry in the records.
+-- equals the entry in the store's records.
 pub reported_rightly : JournalsFit → RowsStand → VoidsChangeTwoRows → JournalsAreKept → PlacesWereKept → (facts : List Fact) (meter : List ℕ) (place : ℕ) → 2 ≤ place → (shown reported : List Row) (sides : Sides) (found : Option stored_around.Around) (seen : stored_around.Around)
     (whole : Installation) (r : Option EntryContext) → ShowsVoids meter facts shown → reported ≡ shown → ByVoids (λ (vs : List Voided). AreSides vs place sides) reported → IfSome found (FindsAround meter place sides.before sides.after facts) → found ≡ Some seen
     → IfSome r (IsSeen whole seen sides.stands) → ReportsRightly meter place whole facts r

@@ -19,7 +19,8 @@ module _ {X : Type 0} (above : X → X → Bool) (AtMost : X → X → Type 0) (
       let all = all_weaker _ (λ z. above x z ≡ true) (λ z. still x y z e) ys up in
       rw (e, filter_none _ ys (all_weaker _ (λ z. not (above x z) ≡ false) (λ z h. ap not h) ys all), filter_all _ ys all)
 
-  -- If a list is sorted, it consists of the elements up to `x`, followed by the elements above `x`.
+  -- If a list of numbers is sorted in ascending order, it consists of the elements up to `x`,
+  -- followed by the elements above `x`.
   split : (x : X) (ys : List X) → IsAscending AtMost ys → ys ≡ filter (λ z. not (above x z)) ys ++ filter (above x) ys
   split x [] up = refl
   split x (y ∷ ys) up = split_step x y ys (above x y) refl up.0 (split x ys up.1)

@@ -1,4 +1,5 @@
--- Proofs about the rows that a query selects from a list of numbered rows.
+-- Proofs about the rows that a query selects from a list of rows numbered by index. For example,
+-- the selected rows pass the query's test.
 use Rattle.std.proofs.Common.{◌≡◌, ◌≤◌, ℕ, ◌+◌, Bool, true, false, cond, inl, inr, ◌⊎◌, List, [], ◌∷◌, map, filter, length, Option, Some, None, refl, sym, ap, subst, ◌∙◌, arith, IsPermutation}
 use Rattle.std.specs.List.{find, AllByRecursion}
 use Rattle.std.proofs.lemmas.Bool.{cases_Bool, cond-true, cond-false}
@@ -28,7 +29,7 @@ found_has p P rows y others all are =
     let passes = recursion_from_All (λ z. p z ≡ true) (y ∷ others) (All-permutation (λ z. p z ≡ true) _ _ are (All-from_recursion (λ z. p z ≡ true) _ (all_passing p rows))) in
     (here.0, passes.0)
 
--- If a filter returns no element, every element fails its test.
+-- If a filter returns no element of a list, every element of the list fails the filter's test.
 pub none_passes : {Y : Type 0} (p : Y → Bool) (ys : List Y) → filter p ys ≡ [] → AllByRecursion (λ y. p y ≡ false) ys
 none_passes p [] h = tt
 none_passes p (y ∷ ys) h = elim (cases_Bool (p y)) [
@@ -43,8 +44,8 @@ none_mapped row p q agree (x ∷ xs) h = elim (cases_Bool (p x)) [
   | inr off ↦ cond-false _ _ _ off ∙ none_mapped row p q agree xs (sym (cond-false _ _ _ (agree x ∙ off)) ∙ h)
 ]
 
--- Lemmas on the numbered rows of a list that is sorted latest first. Of the rows that pass a test,
--- the row with the greatest index encodes the latest element.
+-- Lemmas on the numbered rows of a list that has its latest element first. Of the rows that pass a
+-- test, the row with the greatest index encodes the latest element that passes it.
 
 module _ {X Y : Type 0} (row : ℕ → X → Y) (p : X → Bool) (q : Y → Bool) (agree : (n : ℕ) (x : X) → q (row n x) ≡ p x) where
   -- If none of a list's numbered rows passes a test of rows, no element of the list passes the
@@ -57,7 +58,8 @@ module _ {X Y : Type 0} (row : ℕ → X → Y) (p : X → Bool) (q : Y → Bool
   ]
 
   module _ {A : Type 0} (IsSeen : Y → A → Type 0) (key : Y → ℕ) (keyed : (n : ℕ) (x : X) → key (row n x) ≡ n) where
-    -- True if a row encodes the element `x` with the index `n` + 1, or has an index of at most `n`.
+    -- True if the row `y` encodes the element `x` with the index `n` + 1, or has an index of at
+    -- most `n`.
     abbrev IsUpTo : (n : ℕ) → X → Y → Type 0
     IsUpTo n x y = (y ≡ row (n + 1) x) ⊎ (key y ≤ n)
 

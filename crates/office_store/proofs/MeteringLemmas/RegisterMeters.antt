@@ -1,5 +1,5 @@
--- Proofs about the meters that were installed at an accounting register (a named energy counter of
--- a device), one after another.
+-- Proofs about a query for an accounting register (a named energy counter of a device). It returns
+-- the rows of the meters that were installed at the register, in order of installation.
 use Rattle.std.proofs.Common.{◌≡◌, ℕ, zero, suc, ◌+◌, ◌<◌, ◌≤◌, List, [], ◌∷◌, ◌++◌, map, filter, take, length, get_or, Some, refl, sym, ap, subst, ◌∙◌, arith, add-one, take_all}
 use Rattle.std.specs.List.{AllByRecursion}
 use Rattle.std.proofs.lemmas.List.{length-map}
@@ -57,7 +57,8 @@ rows_are facts register rows lawful h =
     (each_filter (IsInstalledAs facts) (is_at register) (λ (o : Opening). same o.register register) (λ y o is. ap (is_at register) is.is)
     (placed (installed_row facts) (openings_in facts)) (openings_in facts) (each_installed facts (openings_in facts) (alone facts lawful)))) h
 
--- Lemmas that each row that encodes an installation of a meter has a record of this installation.
+-- Lemmas that for each row of `installations` that encodes a meter's opening, the store's records
+-- have this opening (the record that installs the meter).
 
 module _ (facts : List Fact) where
   pub row_there : (openings : List Opening) (rows : List stored.Installation) (i : ℕ) (row : stored.Installation) → AreRowsOf facts openings rows → i < length rows → row ≡ get_or rows i row

@@ -1,4 +1,5 @@
--- Proofs about the possible rows of a meter's journal (its history), by kind of entry.
+-- Proofs that each row of a meter's journal (its history) fits its kind of entry, and is marked as
+-- voided (cancelled) exactly if a void names the entry.
 use Rattle.std.proofs.Common.{◌≡◌, ◌≢◌, ℕ, ◌+◌, ◌≤◌, ◌==◌, ◌&&◌, ◌||◌, not, Bool, true, false, cond, inl, inr, ◌⊎◌, List, [], ◌∷◌, map, length, Option, Some, None, option_map, refl, sym, ap, ap₂, subst, ◌∙◌, arith, eq-eqb, eqb-true}
 use Rattle.std.specs.List.{AllByRecursion}
 use Rattle.std.proofs.lemmas.Bool.{cases_Bool, cond-true, cond-false}
@@ -48,8 +49,8 @@ has_shape meter es kind.Closing (entry.Change at before after sf) h = absurd h
 has_shape meter es kind.Reset (entry.Step at raw rolls) h = absurd h
 has_shape meter es kind.Rescale (entry.Step at raw rolls) h = absurd h
 
--- True if a row of a meter's journal (its history) fits its kind, and is marked as voided exactly
--- if the journal cancels it. Only readings may be voided.
+-- True if a row of a meter's journal (its history) fits its kind of entry, and is marked as voided
+-- exactly if the journal voids (cancels) it. Only readings may be voided.
 pub record IsPlain (lines : Journal) (row : EntryRow) : Type 0 where
   pub shape : HasShape row.kind row.entry
   pub reading : row.stands ≡ false → is_read row.kind row.entry ≡ true
@@ -64,8 +65,8 @@ pub below : (n : ℕ) (rows : List EntryRow) → AreNumbered rows → length row
 below n [] numbered le = tt
 below n (row ∷ rows) numbered le = ((let at = numbered.0 in omega (arith, at, le)), below n rows numbered.1 (omega (arith, le)))
 
--- States that, if the second row has the index `place`, it equals the first row. States nothing
--- about rows with other indices.
+-- States that, if an entry row of a meter has the index `place`, it equals the row `found`. States
+-- nothing about rows with another index.
 abbrev pub FoundThere : (place : ℕ) → EntryRow → EntryRow → Type 0
 FoundThere place found row = row.place ≡ place → found ≡ row
 
@@ -96,8 +97,8 @@ found_there place (row ∷ rows) around numbered h = elim (cases_Bool (row.place
       )
 ]
 
--- Lemmas that, if an entry is voided (cancelled), every other row of the meter's history keeps its
--- kind and its mark.
+-- Lemmas that, if an entry of a meter is voided (cancelled), the row of every other entry keeps its
+-- kind and its mark (voided or not).
 
 shape_rolled : (last : Last) (k : EntryKind) (e : Entry) → HasShape k e → HasShape k (with_rolls last e)
 shape_rolled last k (entry.Change at before after sf) h = h
@@ -111,8 +112,8 @@ module _ (lines : Journal) (place : ℕ) where
   abbrev Later : Journal
   Later = Voided place ∷ lines
 
-  -- If a new void cancels an entry other than the entry of a row, the row still fits the meter's
-  -- history with this void.
+  -- If a new void (the cancellation of an entry) names another entry than the one in a row, the row
+  -- still fits the meter's history with this void.
   unnamed : (row : EntryRow) → (row.place == place) ≡ false → IsPlain lines row → IsPlain Later row
   unnamed row off h = record { shape = h.shape; reading = h.reading; stands = h.stands ∙ sym (ap (λ b. not (b || is_voided row.place lines)) off) }
 
@@ -138,8 +139,8 @@ module _ (lines : Journal) (place : ℕ) where
   }
   changed_if false next last row is read h = next_if (is_next next row) last row is h
 
--- Lemmas that every row of a meter's history fits its kind of entry, and is correctly marked as
--- voided (cancelled) or not.
+-- Lemmas that every row of a meter's history fits its kind of entry, and is marked as voided
+-- (cancelled) exactly if a void names the entry.
 
 plain_entered : (k : EntryKind) (e : Entry) (lines : Journal) (row : EntryRow) → IsPlain lines row → IsPlain (Entered k e ∷ lines) row
 plain_entered k e lines row h = record { shape = h.shape; reading = h.reading; stands = h.stands }

@@ -1,5 +1,5 @@
--- Proofs about the order of the rows of `intervals`, which have the energy of meters by quarter
--- hour.
+-- Proofs about the rows of `intervals`, the table of energy by quarter hour: queries return them in
+-- the order that the store's records give.
 use Rattle.std.proofs.Common.{◌≡◌, ℕ, ◌+◌, ◌<◌, ◌≤◌, ◌==◌, ◌&&◌, ◌||◌, Bool, true, false, cond, inl, inr, ◌⊎◌, List, [], ◌∷◌, ◌++◌, map, filter, reverse, length, Option, Some, None, bytes_eq, refl, sym, ap, ap₂, subst, ◌∙◌, arith, append-nil, eq-eqb, eqb-true, lt-ltb, ltb-true, le-ltb, IsPermutation}
 use Rattle.std.specs.Prelude.{min, nat_le, nat_lt}
 use Rattle.std.specs.List.{AllByRecursion, flat_map}
@@ -58,12 +58,14 @@ each_sound : (rows : List Interval) → ((meter : List ℕ) → AllByRecursion I
 each_sound [] h = tt
 each_sound (i ∷ is) h = (sound_if (is_of i.meter i) i (filter (is_of i.meter) is) (same_itself i.meter) (h i.meter), each_sound is (λ meter. less_rows (is_of meter i) i (filter (is_of meter) is) (h meter)))
 
--- If the rows of `intervals` for each meter can be read, all rows of `intervals` can be read.
+-- Suppose that, for each meter, every value in its rows of the table `intervals` (energy by quarter
+-- hour) is in its column's range. Then this is true of all rows of the table.
 pub all_sound : (facts : List Fact) (rows : List Interval) → AreEach facts rows → HasReadableIntervals facts → AllByRecursion IsSoundInterval rows
 all_sound facts rows each sound =
     each_sound rows (λ meter. recursion_from_All IsSoundInterval _ (All-permutation IsSoundInterval _ _ (IsPermutation-sym _ _ (each meter)) (All-from_recursion IsSoundInterval _ (sound_rows meter (rows_of_meter facts meter) (sound meter)))))
 
--- Lemmas on the rows of `intervals` for a meter, in the order of their starts.
+-- Lemmas: a meter's rows of `intervals`, sorted by their starts, have the meter's energy by quarter
+-- hours in the store's records, in the same order.
 
 abbrev starts_before : Interval → Interval → Bool
 starts_before i j = nat_lt (start_of i) (start_of j)
@@ -146,8 +148,9 @@ module _ (kept : MetersAreKept) (facts : List Fact) (lawful : AreLawful facts) w
     with_false true = refl
     with_false false = refl
 
-    -- The rows of `intervals`, joined with one meter at its own accounting register (a named energy
-    -- counter), are the meter's own rows. At any other register, there are none.
+    -- If a meter is joined with the rows of `intervals` for its own accounting register (a named
+    -- energy counter), the result is the meter's own rows. For any other register, the result is
+    -- empty.
     mine : (b : Bool) (n : ℕ) (o : Opening) → here o ≡ b → IsPermutation (filter (is_of o.meter) rows) (map (interval_of o.meter) (rows_of_opening facts o))
         → IsPermutation (filter (lies_at register) (map (at_place n o) rows)) (cond b (own n o) [])
     mine true n o is each =
@@ -172,7 +175,8 @@ module _ (kept : MetersAreKept) (facts : List Fact) (lawful : AreLawful facts) w
         subst (λ l. IsPermutation l (wanted (o ∷ os))) (sym split)
         (IsPermutation-trans _ _ _ (IsPermutation-append _ _ _ _ (mine (here o) n o refl h.0) (all_lie os h.1)) (IsPermutation-append_comm (cond (here o) (own n o) []) (wanted os)))
 
-    -- Lemmas on rows ordered by the index of their meter, then by the start of the quarter hour.
+    -- Lemmas: rows of `intervals` that are ordered by the index of their meter, then by the start
+    -- of the quarter hour, have only one order.
 
     abbrev comes_before : Pair → Pair → Bool
     comes_before p q = nat_lt (installed_place p.0) (installed_place q.0) || ((installed_place p.0 == installed_place q.0) && starts_before p.1 q.1)

@@ -1,4 +1,5 @@
--- Proofs about selecting rows whose timestamps are in a time span.
+-- Proofs about selecting rows in a time span: limiting the span to the latest timestamp that the
+-- store allows selects the same rows.
 use Rattle.std.proofs.Common.{◌≡◌, ℕ, ◌+◌, ◌≤◌, ◌&&◌, min, nat_le, nat_lt, Bool, true, false, cond, inl, inr, List, [], ◌∷◌, ◌++◌, filter, Option, Some, None, refl, sym, ap, ap₂, subst, ◌∙◌, arith, le-leb, leb-true, leb-false, lt-ltb, le-ltb, ltb-true, ltb-false}
 use Rattle.std.specs.List.{AllByRecursion, flat_map, find}
 use Rattle.std.proofs.lemmas.Bool.{cases_Bool, cond-true, cond-false, lt-leb}

@@ -1,4 +1,4 @@
--- Proofs that a crash of a database connection leaves files that encode records.
+-- Proofs that a crash of a database connection leaves only files that encode records of the store.
 use Rattle.std.proofs.Common.{◌≡◌, ℕ, Bool, List, IsTrue, sym, subst, arith}
 use Rattle.std.proofs.Math.Logic.{∥∥₁_map}
 use Rattle.sqlite_disk.specs.declared.Disk.{Ghosts}

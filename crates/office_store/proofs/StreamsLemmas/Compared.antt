@@ -1,4 +1,5 @@
--- Proofs about queries that select rows by comparing integers.
+-- Proofs that the integer comparisons in a query's WHERE clause select the same rows as comparisons
+-- of natural numbers.
 use Rattle.std.proofs.Common.{◌≡◌, ◌<ℤ◌, nat_le, nat_lt, le-leb, lt-ltb, le-ltb, Some, pos, ℕ, List, filter, Bool, true, false, Ordering, Less, Equal, Greater, refl, sym, ap, ◌∙◌, arith, IsPermutation}
 use Rattle.std.specs.List.{AllByRecursion}
 use Rattle.std.specs.Ordering.{int_cmp, is_ge, is_lt, MatchOrdering}

@@ -1,4 +1,5 @@
--- Proofs about passing the rows of a query to the caller's sink (a visitor of rows) one by one.
+-- Proofs that a query passes its rows one by one, in order, to the sink (a visitor of rows) that
+-- the caller supplies.
 use Rattle.std.proofs.Common.{◌≡◌, inl, inr, List, [], ◌∷◌, ◌++◌, length, length-append, ℕ, ◌+◌, ◌≤◌, false, Ok, Err, Result, OnErr, IsErrAnd, refl, sym, ap, subst, arith, ◌∙◌}
 use Rattle.sqlite.specs.declared.error.Error.{Error}
 use Rattle.sqlite.specs.declared.error.Error.TheVariants.{InvalidQuery}
@@ -107,7 +108,7 @@ module _ {S K T : Type 0} (g : Ghosts S) (sql : List ℕ) (params : Row) (reads 
   asked_on now given has same = (same, given_begin g sql params now given has)
 
   -- If the database fails while a query's rows are streamed, the function returns the error after
-  -- it passed the earlier rows to the caller's sink.
+  -- it passed the earlier rows to the caller's sink (a consumer of rows).
   pub fails_later : (r : Result (Unit {0}) RowFault) (e : Error) (now last new : Held S) (after : K) (count : ℕ) → new ≡ last → IsErrAnd r (λ d. d ≡ Sql e) → HasCleanDisk (state g now) → IsPlain (understood old.schema sql)
       → Stands now after count → (state g now).faults ≤ (state g last).faults → ((given : List Row) → HasGiven g sql params now given → FailsToQuery sql params (state g now) (state g last) e) → HandsOnQuery g sql params reads old new takes before after r
   fails_later (Ok x) e now last new after count ends fails clean plain h up why = absurd fails

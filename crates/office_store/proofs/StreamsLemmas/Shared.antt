@@ -25,7 +25,8 @@ use Rattle.store_tables.proofs.ReadLemmas.{IsFair}
 use Rattle.store_tables.proofs.StepLemmas.{on_ok, plain_in}
 use Rattle.office_store.specs.Handing.{TookSome, AreRead, IsAsked, HandsOn, HandsOnQuery, IsReadFault, IsStreamFault}
 
--- If one row is read successfully, its value satisfies the contract of the row's reader.
+-- If one row is read successfully, the value that was read satisfies the contract of the row's
+-- reader.
 
 if_read : {T : Type 0} (r : Result T RowFault) (P : T → Type 0) (t : T) → IfOk r P → r ≡ Ok t → P t
 if_read (Ok x) P t h is = let same : x ≡ t = cc in subst P same h
@@ -35,7 +36,8 @@ if_damaged : {T : Type 0} (Sound : Type 0) (r : Result T RowFault) → IfErr r (
 if_damaged Sound (Ok x) h is = absurd (let e = is in cc)
 if_damaged Sound (Err f) h is = subst (IsRowFault Sound) (let e : f ≡ Damaged = cc in e) h
 
--- Lemmas on the columns that a query returns for each row, and on the reader of the columns.
+-- Lemmas that, if a query returns certain columns of each row, the reader of the rows converts
+-- these columns to the values that the rows encode.
 module _ {X T : Type 0} (shown : X → Row) (of : X → T) (Sound : X → Type 0) (reads : Row → Result T RowFault) (fair : (x : X) → IsFair (Sound x) (λ t. t ≡ of x) (reads (shown x))) where
   read_as : (x : X) (row : Row) (t : T) → row ≡ shown x → reads row ≡ Ok t → t ≡ of x
   read_as x row t is read = if_read (reads (shown x)) (λ y. y ≡ of x) t (fair x).read (sym (ap reads is) ∙ read)
@@ -75,11 +77,12 @@ nothing reads takes before after [] [] is zip taken = taken
 nothing reads takes before after [] (t ∷ rows) is zip taken = absurd zip
 nothing reads takes before after (r ∷ given) rows is zip taken = absurd (let e = is in cc)
 
--- Lemmas that a streaming query whose result rows are known passes the expected values to the
--- caller's sink.
+-- Lemmas that a streaming query whose result rows are known passes the values that these rows
+-- encode to the caller's sink, a visitor of rows.
 
--- True if the result rows of a query encode the expected values in order. If the tables' values are
--- in their ranges, so is each expected value.
+-- True if the result rows of a query encode, in order, the values that the tables must give for
+-- this query. If the values in the tables are in their ranges, the encoded values are in their
+-- ranges too.
 pub record Reports {X T Tables : Type 0} (shown : X → Row) (of : X → T) (Sound : X → Type 0) (Are : Tables → List T → Type 0) (AreSound : Tables → Type 0) (tables : Tables) (rows : List Row) : Type 0 where
   pub found : List X
   pub shows : rows ≡ map shown found

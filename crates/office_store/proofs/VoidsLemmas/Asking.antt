@@ -1,4 +1,5 @@
--- Proofs that the answers of queries follow from the rows of a table.
+-- Proofs that the answer of a query follows from the rows of the table that it reads, for queries
+-- about voiding (cancelling) an entry.
 use Rattle.std.proofs.Common.{◌≡◌, ℕ, ◌==◌, ◌||◌, pos, Bool, true, false, cond, List, [], ◌∷◌, map, filter, take, slice_get, Option, Some, None, Ok, Err, Result, IsErrAnd, refl, sym, ap, ◌∙◌, IsPermutation, arith}
 use Rattle.std.specs.List.{list_any}
 use Rattle.std.proofs.lemmas.List.Sorted.{length_permutation}
@@ -30,7 +31,8 @@ void_at meter place old new content xs rows has are h =
     (λ n x. rw (text_is x.meter meter, number_is x.place place, and_true (x.place == place)) refl) (λ n x. refl) (λ m n x y le. tt)
     old new text.void_at text.void_at_names content xs rows (tree_at books_schema.tables 12 voids_table refl) has are text.void_at_is text.void_at_unlisted text.void_at_plain h
 
--- If a query fails, or its answer can't be read, the tables stay unchanged.
+-- If a query fails, or its answer can't be read, a function that then returns an error leaves the
+-- tables unchanged.
 
 pub not_answered : {S A X Y : Type 0} (T : RowFault → Type 0) (g : Ghosts S) (old new : Held S) (e : Error) (r : Result Y RowFault) (tree : ℕ) (columns : X → Row) (Answers : List X → Y → Type 0)
     → AsksInside {X = A} {E = Error} g old new (Err e) → IsErrAnd r T → Goes (state g old) (state g new) r (ReportsOf r tree columns Answers)

@@ -1,5 +1,5 @@
--- Proofs about the search for the nearest meter entry that is not voided (cancelled). The search
--- queries one index after another.
+-- Proofs that the search for the nearest meter entry that is not voided (cancelled), which queries
+-- one index after another, returns the index of this entry.
 use Rattle.std.proofs.Common.{◌≡◌, ◌≤◌, ◌<◌, ◌+◌, ℕ, Bool, true, false, inl, inr, List, Ok, Err, Result, IsErrAnd, refl, sym, subst, ◌∙◌, arith}
 use Rattle.std.specs.Prelude.{nat_lt}
 use Rattle.std.proofs.lemmas.Bool.{cases_Bool}
@@ -15,8 +15,8 @@ use Rattle.office_store.proofs.GoingLemmas.{goes_then, then_failed, reported_les
 use Rattle.office_store.specs.Voids.Places.{ReportsOf, names, ReportsVoided, AreVoided, IsBefore, IsAfter}
 
 module _ (meter : List ℕ) where
-  -- True if a meter's entries with indices above `low` and below `high` are all voided (cancelled),
-  -- and the search changed nothing.
+  -- True if a search for a meter's nearest valid entry changed no table, and all of the meter's
+  -- entries with indices above `low` and below `high` are voided (cancelled).
   abbrev pub Passed : (low high : ℕ) → Content → Content → Type 0
   Passed low high = Reported voids voided_columns (λ (vs : List Voided) (u : Unit {0}). AreVoided meter low high vs) tt
 

@@ -33,7 +33,7 @@ use Rattle.office_store.proofs.VoidsLemmas.Texts as text
 -- Lemmas on the effect of the SQL statements that subtract energy from rows of `intervals`, and
 -- that delete rows.
 
--- A row of `intervals` after an UPDATE subtracted energy in mWh.
+-- The row of `intervals` after an UPDATE that subtracted energy in mWh.
 abbrev pub takes : (mwh : ℕ) → Kept → Kept
 takes mwh k = record { meter = k.meter; start = k.start; energy = cast Integer (binary (Arith Sub) k.energy (Int (pos mwh))) }
 
@@ -89,7 +89,8 @@ take_share meter share old new r h =
     on_ok r (turns_weaker _ _ old.now new.now (λ content after. of_intervals (HaveShares meter (share ∷ [])) (without_shares meter (share ∷ [])) (taken_from meter share.start share.mwh) content after (λ is has. all_taken meter share is has.0)))
     (takes_kept meter share.start share.mwh old new r h)
 
--- Two subtractions of energy in sequence have the effect of one combined edit of `intervals`.
+-- Two subtractions of energy from `intervals`, one after the other, have the effect of one combined
+-- edit.
 
 edits_then : (May One Two : List Interval → Type 0) (all one two : List Interval → List Interval)
     → ((is : List Interval) → May is → One is × Two (one is) × (two (one is) ≡ all is)) → (x y z : Content) → EditsIf One one x y → EditsIf Two two y z → EditsIf May all x z

@@ -1,5 +1,5 @@
--- Defines which changes voiding (cancelling) an entry makes to its meter, given the entries around
--- the voided entry that are not voided.
+-- Defines which changes voiding (cancelling) an entry makes to its meter. The changes follow from
+-- the nearest entries before and after it that are not voided.
 use Rattle.std.specs.Prelude.{◌≡◌, ℕ, ◌+◌, ◌<◌, ◌≤◌, ◌==◌, Bool, Option, Some, None, IfSome, is_none, if◌then◌else◌}
 use Rattle.energy_core.specs.declared.limits.TheConstants.{MAX_INTERVALS}
 use Rattle.energy_core.specs.declared.entries.Entry.{Entry}
@@ -32,8 +32,8 @@ pub record CanBeShared (step : Step) : Type 0 where
   pub energy : step.mwh ≤ greatest_total
   pub till : step.till ≤ latest_moment
 
--- True if the tables allow the new counter rollovers and energies of the next entry after a voided
--- (cancelled) entry.
+-- True if the tables can store the new counter rollovers and energies of the entry after a voided
+-- (cancelled) entry: each value is in the range of its column.
 pub record CanBeRejoined (joined : Rejoined) : Type 0 where
   pub place : joined.rollover.place ≤ greatest_place
   pub out : CanBeShared joined.out
@@ -47,8 +47,8 @@ pub record CanBeBooked (made : Correction) : Type 0 where
   pub last : IsSoundLast made.last
   pub from : made.from ≤ latest_moment
 
--- True if `joined` has the new rollovers and energies of the entry after a voided (cancelled)
--- entry, counted from the state before the voided entry.
+-- True if `joined` has the new counter rollovers and energies of the entry after a voided
+-- (cancelled) entry. The rollovers are counted from the counter's state before the voided entry.
 pub record Rejoins (range : ℕ) (before voided : Last) (next : EntryRow) (joined : Rejoined) : Type 0
   where
     pub entry : Entry
@@ -58,16 +58,16 @@ pub record Rejoins (range : ℕ) (before voided : Last) (next : EntryRow) (joine
     pub out : joined.out ≡ step_to range voided entry
     pub put : joined.put ≡ step_to range before (with_rolls before entry)
 
--- True if `joined` has the new rollovers and energies of the entry after a voided (cancelled)
--- entry, or is None if no entry follows.
+-- True if `joined` has the new counter rollovers and energies of the entry after a voided
+-- (cancelled) entry, or is None if no entry follows.
 abbrev pub RejoinsNext : (range : ℕ) → (before voided : Last) → Option EntryRow → Option Rejoined
     → Type 0
 RejoinsNext range before voided None joined = joined ≡ None
 RejoinsNext range before voided (Some next) None = ⊥
 RejoinsNext range before voided (Some next) (Some joined) = Rejoins range before voided next joined
 
--- The energy in mWh that is removed when an entry is voided (cancelled): the energy up to this
--- entry, and from it to the next entry, if any.
+-- The energy in mWh that is subtracted when an entry is voided (cancelled). It consists of the
+-- energy from the previous entry to this entry, and from this entry to the next entry, if any.
 abbrev pub energy_out : Step → Option Rejoined → ℕ
 energy_out out None = out.mwh
 energy_out out (Some joined) = joined.out.mwh + out.mwh
@@ -78,8 +78,8 @@ abbrev pub energy_put : Option Rejoined → ℕ
 energy_put None = 0
 energy_put (Some joined) = joined.put.mwh
 
--- True if `last` is the meter's last entry and total energy after an entry was voided (cancelled).
--- If the voided entry was the last, the entry before it becomes the last.
+-- True if `last` has the meter's last entry and total energy after an entry was voided (cancelled).
+-- If the voided entry was the meter's last, the entry before it becomes the last entry.
 abbrev pub StandsAt : Surroundings → (before : Last) → (total : ℕ) → (is_last : Bool) → LastRow
     → Type 0
 StandsAt found before total is_last last =
@@ -91,8 +91,8 @@ StandsAt found before total is_last last =
 abbrev pub gone_from : (opened last : ℕ) → ℕ
 gone_from opened last = if last == opened then 0 else last
 
--- True if `made` has the changes that voiding (cancelling) a meter entry makes, given the entries
--- around it.
+-- True if `made` has the changes that voiding (cancelling) a meter entry makes. `found` has this
+-- entry, the entries before and after it, and the meter's state.
 pub record Corrects (found : Surroundings) (made : Correction) : Type 0 where
   pub entry : Entry
   pub reading : IsReadingOf found.near.entry entry

@@ -1,4 +1,5 @@
--- Definitions about the state of a meter in the tables, and about its state after one more entry.
+-- Definitions about the state of a meter in the SQL tables (last entry, total energy, closed flag),
+-- and about its state after one more entry.
 use Rattle.std.specs.Prelude.{◌≡◌, ℕ, ◌+◌, true, Bool, List, Some, Ok, if◌then◌else◌}
 use Rattle.energy_core.specs.declared.entries.Last.{Last}
 use Rattle.energy_core.specs.declared.entries.Step.{Step}
@@ -40,8 +41,9 @@ counter_of last = record { at = last.moment; raw = last.raw; sf = last.sf }
 abbrev pub stands_at : Last → (total : ℕ) → LastRow
 stands_at last total = record { moment = last.at; raw = last.raw; sf = last.sf; total = total }
 
--- States that, if the rules accept a new entry, the `Advance` has the meter's new last entry and
--- the energy since the previous entry. States nothing otherwise.
+-- States that, if the rules for meter entries accept a new entry, the value `Advance` has the
+-- meter's new last entry and the energy since the previous entry. States nothing if the rules
+-- reject the entry.
 abbrev pub Advances : Standing → Entry → Advance → Type 0
 Advances standing e advance =
     (last : Last) (step : Step)

@@ -17,22 +17,23 @@ use Rattle.store_tables.specs.Meters.Rows.{Installed}
 abbrev pub one_on : ℕ → Result ℕ RowFault
 one_on place = if nat_le greatest_place place then Err Damaged else Ok (place + 1)
 
--- The index that follows the index in the first column of a row, or `Damaged` if this index is out
--- of its range.
+-- The index that follows the index in the first column of a row, or `Damaged` if the row's index is
+-- out of its range.
 abbrev pub following_place : Row → Result ℕ RowFault
 following_place row = and_then (or_damaged (whole_in 1 greatest_place (column row 0))) one_on
 
--- The index that follows the index in a row, or 1 if there is no row.
+-- The index that follows the index in the given row, or 1 if there is no row.
 abbrev pub place_after : Option Row → Result ℕ RowFault
 place_after None = Ok 1
 place_after (Some row) = following_place row
 
--- The index that follows the index in a result's first row, or 1 if the result has no row.
+-- The index that follows the index in the first row of a query's result, or 1 if the result has no
+-- row.
 abbrev pub next_in : List Row → Result ℕ RowFault
 next_in rows = place_after (slice_get rows 0)
 
--- States that, if the call returns `Ok`, the relation `Makes` holds between the answer, the tables
--- before the call, and the tables after it. States nothing after an error.
+-- States that, if a call inside a transaction returns `Ok`, the relation `Makes` holds between the
+-- answer, the tables before the call, and the tables after it. States nothing after an error.
 abbrev pub Answered : {X E : Type 0} → Result X E → (X → Content → Content → Type 0) → Content
     → Content → Type 0
 Answered (Ok x) Makes = Makes x
@@ -45,6 +46,7 @@ pub record IsSeenIn {X A : Type 0} (tree : ℕ) (columns : X → Row) (passes : 
   pub seen : (rows : List X) → HasRows tree columns rows content
       → IsFound passes IsSeen rows (Some answer)
 
--- True if the value that a query returned equals the last meter entry in a row of `installations`.
+-- True if the last meter entry that a query returned equals the last entry in a row of
+-- `installations`.
 abbrev pub StandsThere : Installed → LastRow → Type 0
 StandsThere i last = last ≡ i.row.last

@@ -17,14 +17,15 @@ HasEntry meter place found content =
     (rows : List Entered) → HasRows entries entry_columns rows content
     → IsFound (is_entry meter place) IsRow rows found
 
--- True if `before` is the index of the last meter entry before `place` that is not voided
+-- True if `before` is the index of the last meter entry before index `place` that is not voided
 -- (cancelled).
 abbrev pub StandsBefore : (meter : List ℕ) → (place before : ℕ) → Content → Type 0
 StandsBefore meter place before content =
     (rows : List Voided) → HasRows voids voided_columns rows content
     → IsBefore meter place rows before
 
--- True if `next` is the first index after `place` that no row of `voids` cancels for the meter.
+-- True if `next` is the first index after the index `place` that no row of `voids` cancels for the
+-- meter.
 abbrev pub StandsAfter : (meter : List ℕ) → (place next : ℕ) → Content → Type 0
 StandsAfter meter place next content =
     (rows : List Voided) → HasRows voids voided_columns rows content
@@ -36,8 +37,8 @@ pub record FindsEntry (meter : List ℕ) (place : ℕ) (entry : EntryRow)
   pub same : after ≡ content
   pub there : HasEntry meter place (Some entry) content
 
--- True if queries found the last meter entry before `place` that is not voided (cancelled), and
--- changed nothing.
+-- True if queries found the last meter entry before index `place` that is not voided (cancelled),
+-- and changed nothing.
 pub record FindsBefore (meter : List ℕ) (place : ℕ) (entry : EntryRow)
     (content after : Content) : Type 0 where
   pub same : after ≡ content
@@ -45,8 +46,8 @@ pub record FindsBefore (meter : List ℕ) (place : ℕ) (entry : EntryRow)
   pub stands : StandsBefore meter place at content
   pub there : HasEntry meter at (Some entry) content
 
--- True if queries found the next meter entry after `place` that is not voided (cancelled), or None,
--- and changed nothing.
+-- True if queries found the next meter entry after index `place` that is not voided (cancelled), or
+-- None, and changed nothing.
 pub record FindsAfter (meter : List ℕ) (place : ℕ) (found : Option EntryRow)
     (content after : Content) : Type 0 where
   pub same : after ≡ content
@@ -68,8 +69,8 @@ pub record OpenedAt (meter : List ℕ) (opened : ℕ) (content after : Content) 
   pub moment : opened ≡ opening.moment
   pub finds : FindsEntry meter 1 opening content after
 
--- True if queries found a meter entry, the entries before and after it, and the state of the meter,
--- and changed nothing.
+-- True if queries found a meter entry, the nearest entries before and after it that are not voided,
+-- and the state of the meter, and changed nothing.
 pub record IsAround (meter : List ℕ) (place : ℕ) (found : Surroundings)
     (content after : Content) : Type 0 where
   pub standing : IsStanding meter found.standing content after

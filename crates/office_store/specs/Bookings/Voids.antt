@@ -1,4 +1,4 @@
--- Definitions of the tables after a meter entry was voided (cancelled).
+-- Defines the content of the tables after a meter entry was voided (cancelled).
 use Rattle.std.specs.Prelude.{◌≡◌, ℕ, false, List, Option, Some, None}
 use Rattle.energy_core.specs.declared.entries.Step.{Step}
 use Rattle.interval_core.specs.Share.{shares_of}
@@ -11,8 +11,8 @@ use Rattle.office_store.specs.declared.bookings.corrections.Correction.{Correcti
 use Rattle.office_store.specs.declared.bookings.corrections.Rejoined.{Rejoined}
 use Rattle.office_store.specs.Bookings.MeterState.{Settles}
 
--- The rows of `entries` after an entry was voided (cancelled): the next entry has a new number of
--- counter rollovers.
+-- The rows of `entries` after an entry was voided (cancelled): the row of the next entry, if any,
+-- has a new number of counter rollovers.
 abbrev pub rolled_next : (meter : List ℕ) → Option Rejoined → List Entered → List Entered
 rolled_next meter None rows = rows
 rolled_next meter (Some next) rows =
@@ -36,7 +36,7 @@ PutsNext meter None content after = after ≡ content
 PutsNext meter (Some next) content after = BooksShares meter (shares_of next.put) content after
 
 -- The effect of subtracting two energies from `intervals`: from a voided (cancelled) entry to the
--- next entry, and from the previous entry to the voided entry.
+-- next entry, if any, and from the previous entry to the voided entry.
 pub record TakesSteps (meter : List ℕ) (step : Step) (joined : Option Rejoined)
     (content after : Content) : Type 0 where
   pub one : Content
@@ -44,8 +44,8 @@ pub record TakesSteps (meter : List ℕ) (step : Step) (joined : Option Rejoined
   pub out : TakesShares meter (shares_of step) one after
 
 -- The effect of voiding (cancelling) an entry on `intervals`. The energy between the previous and
--- the next entry replaces the energies to and from the voided entry. Rows that start at or after
--- the meter's last entry are deleted.
+-- the next entry replaces the energy between each of them and the voided entry. Rows that start at
+-- or after the meter's last entry are deleted.
 pub record ExchangesRows (meter : List ℕ) (made : Correction) (content after : Content) : Type 0
   where
     pub one : Content
@@ -54,16 +54,16 @@ pub record ExchangesRows (meter : List ℕ) (made : Correction) (content after :
     pub put : PutsNext meter made.next one two
     pub gone : DropsRows meter made.from two after
 
--- The effect of inserting a row of `voids` for a cancelled entry, and of setting the counter
--- rollovers of the next meter entry.
+-- The effect of inserting a row of `voids` for a voided (cancelled) meter entry, and of setting the
+-- counter rollovers of the next entry.
 pub record MarksVoid (meter : List ℕ) (place moment : ℕ) (joined : Option Rejoined)
     (content after : Content) : Type 0 where
   pub one : Content
   pub void : Edits voids voided_columns (with_row (voided_at meter place moment)) content one
   pub next : RollsNext meter joined one after
 
--- The effect of voiding (cancelling) a meter's entry: the row of `voids`, the next entry's
--- rollovers, the energy by quarter hours, and the meter's new state.
+-- The effect of voiding (cancelling) a meter's entry on the row of `voids`, the next entry's
+-- rollovers, the energy by quarter hours, and the meter's state.
 pub record EntersVoid (meter : List ℕ) (place moment : ℕ) (made : Correction)
     (content after : Content) : Type 0 where
   pub one : Content

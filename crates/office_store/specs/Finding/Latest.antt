@@ -43,7 +43,8 @@ latest_ended facts = greatest (λ e. e.at) (ended_in facts)
 abbrev pub latest_replied : List Fact → ℕ
 latest_replied facts = greatest (λ r. r.at) (replies_in facts)
 
--- The latest timestamp of all polls, outcomes, rejected readings and stored requests.
+-- The latest timestamp of all polls, outcomes, rejected readings and stored requests (accepted
+-- requests that are kept to detect retries).
 abbrev pub latest_asked : List Fact → ℕ
 latest_asked facts =
     max (max (latest_started facts) (latest_ended facts))

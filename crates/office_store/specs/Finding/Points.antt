@@ -36,8 +36,8 @@ pub record IsSpelled (p : ListedPoint) : Type 0 where
   pub kind : type_of (type_text p.kind) ≡ Some p.kind
   pub scale : scale_spelled (scale_text p.scale) ≡ Some p.scale
 
--- States that, if a row of `points` encodes a SunSpec point whose texts can be parsed, this point
--- is the given one. The texts are those of the point's type and scale.
+-- States that, if a row of `points` encodes a SunSpec point, and the row's texts for type and scale
+-- can be parsed, the encoded point is the given one.
 abbrev pub IsPointOf : Listed → ListedPoint → Type 0
 IsPointOf row point = (device : List ℕ) (place : ℕ) (p : ListedPoint) → IsSpelled p
     → row ≡ listed device place p → point ≡ p

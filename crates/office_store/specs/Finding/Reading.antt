@@ -25,7 +25,8 @@ use Rattle.office_books.specs.declared.books.Repeat.{Repeat}
 use Rattle.office_books.specs.declared.books.Repeat.TheVariants.{Same, Other}
 use Rattle.office_store.specs.Rows.{added, registered, started, outcome_row}
 
--- The device with the given name and numbers, or `Damaged` if they are not valid for a device.
+-- The device with the given name and numbers, or `Damaged` if the name is no valid name or a number
+-- is out of its range.
 abbrev pub device_with : (name : List ℕ) → DeviceRow → Result Device RowFault
 device_with text row =
     and_then (or_damaged (named text)) (λ name.
@@ -48,7 +49,7 @@ source_from (scale.Fixed sf) = source.Fixed sf
 source_from (scale.At address) = source.Register address
 
 -- The accounting register (named counter of a device) with the given names and numbers, or
--- `Damaged` if they are not valid.
+-- `Damaged` if a name is not valid or a number is out of its range.
 abbrev pub register_with : (name device : List ℕ) → RegisterRow → Result Register RowFault
 register_with text of row =
     and_then (or_damaged (named text)) (λ name.
@@ -81,12 +82,14 @@ pub record HasNumbers (name : List ℕ) (row : PollRow) (poll : Poll) : Type 0 w
 abbrev pub IsPollOf : Started → Poll → Type 0
 IsPollOf row poll = (p : Poll) → row ≡ started p → poll ≡ p
 
--- The poll and the outcome that a row of `outcomes` encodes.
+-- The ended poll that a row of `outcomes` encodes: the poll's number, its outcome and the time of
+-- its end.
 abbrev pub ended_from : OutcomeRow → EndedPoll
 ended_from row = record { poll = row.poll; at = row.moment; outcome = row.outcome }
 
--- Converts the result of comparing a request with a stored request from the type of the tables to
--- the type of the records.
+-- Converts the result of comparing a request with the request that is stored under the same
+-- idempotency key. The type `Repeat` of the tables becomes the type `Repeat` of the store's
+-- interface.
 abbrev pub repeat_from : kept.Repeat → Repeat
 repeat_from (kept_as.Same kind) = Same kind
 repeat_from kept_as.Other = Other

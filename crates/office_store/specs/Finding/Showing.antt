@@ -1,4 +1,5 @@
--- The result rows of queries, as functions of the stored records.
+-- Defines the result rows of queries for devices, points, accounting registers (named energy
+-- counters) and polls, as functions of the stored records.
 use Rattle.std.specs.Prelude.{◌≡◌, ℕ, List, map, filter, reverse, Option, Vec}
 use Rattle.sqlite.specs.Order.{Row}
 use Rattle.office_events.specs.declared.facts.Fact.{Fact}
@@ -31,8 +32,8 @@ ShowsRegisters device facts rows =
 abbrev pub ShowsPendingPolls : {Z : Type 0} → List Fact → Vec Row Z → Type 0
 ShowsPendingPolls facts rows = rows.items ≡ map poll_shown (map started (pending_in facts))
 
--- True if the answer is the accounting register (named energy counter) with the name `name`, or
--- None if no register has the name.
+-- True if the answer is the accounting register (named energy counter) with the name `name`. If no
+-- register has this name, true if the answer is None.
 abbrev pub FindsRegister : (name : List ℕ) → List Fact → Option Register → Type 0
 FindsRegister name facts =
     IsFound (is_register name) IsRegister (placed registered (registers_in facts))

@@ -35,14 +35,15 @@ abbrev pub HasReadableRegisters : List Fact → Type 0
 HasReadableRegisters facts =
     AllByRecursion IsReadableRegister (placed registered (registers_in facts))
 
--- True if every row of `polls` can be read.
+-- True if every row of the table `polls` can be parsed as a started poll.
 abbrev pub HasReadablePolls : List Fact → Type 0
 HasReadablePolls facts = AllByRecursion IsReadablePoll (map started (polls_in facts))
 
--- True if every row of `outcomes` can be read.
+-- True if every row of the table `outcomes` (how polls ended) can be parsed.
 abbrev pub HasReadableOutcomes : List Fact → Type 0
 HasReadableOutcomes facts = AllByRecursion IsSoundOutcome (map outcome_row (ended_in facts))
 
--- True if every row of `replies` can be read.
+-- True if every row of the table `replies` (stored responses to requests with idempotency keys) can
+-- be parsed.
 abbrev pub HasReadableReplies : List Fact → Type 0
 HasReadableReplies facts = AllByRecursion IsSoundKept (map kept (replies_in facts))

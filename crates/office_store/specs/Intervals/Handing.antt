@@ -11,17 +11,20 @@ use Rattle.store_tables.specs.Meters.Rows.{Installed, installed_columns, install
 use Rattle.office_store.specs.Intervals.Trees.{intervals}
 use Rattle.office_store.specs.Intervals.Rows.{Interval, interval_columns, is_of, start_of, IsSoundInterval}
 
--- True if a list has exactly the rows of the table `intervals`.
+-- True if a list has exactly the rows of `intervals`, the table of each meter's energy by quarter
+-- hour.
 abbrev pub HaveIntervals : List Interval → Content → Type 0
 HaveIntervals = HasRows intervals interval_columns
 
--- True if the list of shares is the energy of a meter by quarter hours, ordered by their starts.
+-- True if the list of shares (the energies of single quarter hours) is a meter's energy, ordered by
+-- the starts of the quarter hours.
 abbrev pub AreSharesOfMeter : (meter : List ℕ) → List Interval → List Share → Type 0
 AreSharesOfMeter meter rows all =
     (found : List Interval) × AreFound (is_of meter) (FirstFirst start_of) rows found
     × (all ≡ map (λ i. i.share) found)
 
--- True if every value of every row of `intervals` is in its range.
+-- True if every value of every row of `intervals` (each meter's energy by quarter hour) is in the
+-- range that its column allows.
 abbrev pub AreSoundIntervals : List Interval → Type 0
 AreSoundIntervals = AllByRecursion IsSoundInterval
 
@@ -51,16 +54,17 @@ ComesAfter p q =
     (installed_place p.0 < installed_place q.0)
     ⊎ ((installed_place p.0 ≡ installed_place q.0) × (start_of p.1 ≤ start_of q.1))
 
--- True if the list of shares is the energy of an accounting register (a named energy counter) by
--- quarter hours: one meter after another, in the order of installation.
+-- True if the list of shares (the energies of single quarter hours) is the energy of an accounting
+-- register (a named energy counter). The shares of one meter follow those of another, in the order
+-- of installation.
 abbrev pub AreSharesAt : (register : List ℕ) → Lying → List Share → Type 0
 AreSharesAt register lying all =
     (found : List (Installed × Interval))
     × AreFound (lies_at register) ComesAfter (pairs lying.installed lying.rows) found
     × (all ≡ map (λ p. p.1.share) found)
 
--- True if every value of every row of `intervals` is in its range. Nothing is assumed about the
--- rows of `installations`, which only select rows of `intervals`.
+-- True if every value of every row of `intervals` is in the range that its column allows. Nothing
+-- is assumed about the rows of `installations`, which only select rows of `intervals`.
 abbrev pub AreSoundLying : Lying → Type 0
 AreSoundLying lying = AreSoundIntervals lying.rows
 
@@ -68,8 +72,9 @@ AreSoundLying lying = AreSoundIntervals lying.rows
 abbrev pub is_between : (from till : ℕ) → Interval → Bool
 is_between from till i = nat_le from (start_of i) && nat_lt (start_of i) till
 
--- True if the list of shares is a meter's energy by quarter hours, ordered by their starts. Only
--- quarter hours with starts of at least `from` and less than `till` are in the list.
+-- True if the list of shares (the energies of single quarter hours) is a meter's energy, ordered by
+-- the starts of the quarter hours. Only quarter hours with starts of at least `from` and less than
+-- `till` are in the list.
 abbrev pub AreSharesOfMeterBetween : (meter : List ℕ) → (from till : ℕ) → List Interval
     → List Share → Type 0
 AreSharesOfMeterBetween meter from till rows all =
@@ -77,9 +82,9 @@ AreSharesOfMeterBetween meter from till rows all =
     × AreFound (λ i. is_of meter i && is_between from till i) (FirstFirst start_of) rows found
     × (all ≡ map (λ i. i.share) found)
 
--- True if the list of shares is the energy of an accounting register (an energy counter) by quarter
--- hours. Their starts are at least `from` and less than `till`. The meters follow one another in
--- the order of installation.
+-- True if the list of shares (the energies of single quarter hours) is the energy of an accounting
+-- register (a named energy counter). The starts of the quarter hours are at least `from` and less
+-- than `till`. The meters follow one another in the order of installation.
 abbrev pub AreSharesAtBetween : (register : List ℕ) → (from till : ℕ) → Lying → List Share → Type 0
 AreSharesAtBetween register from till lying all =
     (found : List (Installed × Interval))

@@ -1,4 +1,5 @@
--- Rows of `intervals`, their columns, and the ranges of their values.
+-- Defines the rows of `intervals` (a meter's energy by quarter hour), their columns, and the ranges
+-- of their values.
 use Rattle.std.specs.Prelude.{ℕ, pos, ◌≤◌, List, [], ◌∷◌, Bool, bytes_eq, ◌&&◌, ◌==◌, Result, Ok}
 use Rattle.sqlite.specs.declared.types.Value.TheVariants.{Int, Text}
 use Rattle.sqlite.specs.Order.{Row, column}
@@ -34,12 +35,13 @@ is_at meter start i = bytes_eq i.meter meter && (i.share.start == start)
 abbrev pub start_of : Interval → ℕ
 start_of i = i.share.start
 
--- True if the start and the energy of a quarter hour are in their ranges.
+-- True if the start and the energy of a quarter hour are in the ranges that the columns of the
+-- table `intervals` allow.
 pub record IsSoundShare (share : Share) : Type 0 where
   pub start : share.start ≤ latest_moment
   pub mwh : share.mwh ≤ greatest_total
 
--- True if every value of a row of `intervals` is in its range.
+-- True if every value of a row of `intervals` is in the range that its column allows.
 abbrev pub IsSoundInterval : Interval → Type 0
 IsSoundInterval i = IsSoundShare i.share
 

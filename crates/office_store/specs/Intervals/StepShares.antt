@@ -1,5 +1,5 @@
--- The rows of `intervals` after the energy between two consecutive entries of a meter was added,
--- split into the quarter hours between the entries.
+-- Defines the rows of `intervals` after the energy between two consecutive entries of a meter was
+-- added, split into the quarter hours between the entries.
 use Rattle.std.specs.Prelude.{◌≡◌, ◌≢◌, ℕ, ◌+◌, ◌≤◌, List, [], ◌∷◌, if◌then◌else◌}
 use Rattle.std.specs.List.{list_any, AllByRecursion}
 use Rattle.interval_core.specs.declared.shares.Share.{Share}
@@ -8,7 +8,7 @@ use Rattle.office_store.specs.Intervals.Trees.{intervals}
 use Rattle.store_tables.specs.Meters.Rows.{greatest_total}
 use Rattle.office_store.specs.Intervals.Rows.{Interval, interval_columns, is_at}
 
--- A row of `intervals` whose energy was increased by `mwh`, in mWh.
+-- The row of `intervals` after its energy was increased by `mwh`, in mWh.
 abbrev pub raised : (mwh : ℕ) → Interval → Interval
 raised mwh i = record i { share = record i.share { mwh = i.share.mwh + mwh } }
 
@@ -30,8 +30,8 @@ with_shares meter (share ∷ shares) rows = with_shares meter shares (with_share
 abbrev pub AreSmall : List Interval → Type 0
 AreSmall = AllByRecursion (λ i. i.share.mwh ≤ greatest_total)
 
--- The effect of a write on the table `intervals`. If the table's rows have the property `May`, the
--- write changes the rows by the function `edit`. Every other table is unchanged.
+-- The effect of a write on the table `intervals`: if its rows have the property `May`, the write
+-- changes them by the function `edit`. Every other table is unchanged.
 pub record EditsIf (May : List Interval → Type 0) (edit : List Interval → List Interval)
     (content after : Content) : Type 0 where
   pub rows : (is : List Interval) → HasRows intervals interval_columns is content → May is
@@ -39,7 +39,7 @@ pub record EditsIf (May : List Interval → Type 0) (edit : List Interval → Li
   pub others : (t : ℕ) → t ≢ intervals → after t ≡ content t
 
 -- The effect of adding a meter's energy by quarter hours to the table `intervals`. The rows get the
--- energy if no row then exceeds the greatest total energy of a meter.
+-- energy if afterwards no row exceeds the greatest total energy of a meter.
 abbrev pub BooksShares : (meter : List ℕ) → List Share → Content → Content → Type 0
 BooksShares meter shares =
     EditsIf (λ is. AreSmall (with_shares meter shares is)) (with_shares meter shares)

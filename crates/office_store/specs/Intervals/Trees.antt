@@ -1,4 +1,5 @@
--- The number of the B-tree that stores the table `intervals`.
+-- The number of the B-tree that stores the table `intervals`, the energy of each meter by quarter
+-- hour.
 use Rattle.std.specs.Prelude.{ℕ}
 
 abbrev pub intervals : ℕ

@@ -1,4 +1,5 @@
--- Theorems about the records of files that were created or opened.
+-- Theorems: the tables of a database file that was just created encode no records, and opening a
+-- file keeps its records.
 use Rattle.std.specs.Prelude.{◌≡◌, ◌≢◌, ◌↔◌, ◌^◌, ⊤, ℕ, List, [], All}
 use Rattle.sqlite.specs.Effect.{Database, IsDatabase}
 use Rattle.office_events.specs.declared.facts.Opening.{Opening}
@@ -14,11 +15,12 @@ use Rattle.store_tables.specs.Upgrade.{IsFile, IsBrought}
 use Rattle.office_store.specs.Tables.{AreOf}
 use Rattle.office_store.specs.Holding.{HasFacts}
 
--- Theorem: if a file was just created, its tables encode no records.
+-- Theorem: if a database file was just created, its tables encode no records.
 abbrev pub NewFilesHaveNone : Type 0
 NewFilesHaveNone = (zone : List ℕ) (content : Content) → IsNew zone content → AreOf zone [] content
 
--- Definitions and theorems on the records of a database file of any version.
+-- Defines which records a database file of any version encodes, and states theorems on opening such
+-- a file.
 
 -- True if the counter of an installed meter has 2^32 values.
 abbrev pub HasFullRange : Opening → Type 0
@@ -32,8 +34,8 @@ FitIn First facts = All HasFullRange (openings_in facts) × (voids_in facts ≡ 
 FitIn Second facts = voids_in facts ≡ []
 FitIn Third facts = ⊤
 
--- True if a file of the given version encodes the records. Each of its tables except `meta` has the
--- rows that version 3 has for the records.
+-- True if a file of the given version encodes the records. Each table of the file except `meta` has
+-- the rows that a file of version 3 has for these records.
 pub record HasFactsIn (layout : Layout) (zone : List ℕ) (facts : List Fact)
     (db : Database) : Type 0
   where
@@ -44,14 +46,16 @@ pub record HasFactsIn (layout : Layout) (zone : List ℕ) (facts : List Fact)
     pub same : (t : ℕ) → HasTree (schema_of layout).tables t → t ≢ meta → content t ≡ newest t
     pub fit : FitIn layout facts
 
--- Theorem: after a file was opened and upgraded, its tables encode the same records.
+-- Theorem: after a database file was opened and upgraded, its tables encode the same records as
+-- before.
 abbrev pub OpenedFilesKeepTheirs : Type 0
 OpenedFilesKeepTheirs = (layout : Layout) (zone : List ℕ) (facts : List Fact) (db : Database)
     → (it : HasFactsIn layout zone facts db) (after : Content)
     → IsBrought layout zone it.content after → AreOf zone facts after
 
--- Theorem: for files of version 3, two definitions of the encoded records agree. These are
--- `HasFactsIn` (for files of any version) and `HasFacts` (for current tables).
+-- Theorem: for files of version 3, two definitions of the records that a file encodes are
+-- equivalent. These are `HasFactsIn` (for files of any version) and `HasFacts` (for current
+-- tables).
 abbrev pub NewestFilesHaveTheirs : Type 0
 NewestFilesHaveTheirs = (zone : List ℕ) (facts : List Fact) (db : Database)
     → (HasFactsIn Third zone facts db) ↔ (HasFacts zone facts db)

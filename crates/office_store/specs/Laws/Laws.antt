@@ -1,4 +1,4 @@
--- Theorems that the tables determine the records, also after a crash.
+-- Theorems that the tables of a store determine the records that they encode, also after a crash.
 use Rattle.std.specs.Prelude.{◌≡◌, ℕ, List}
 use Rattle.sqlite.specs.Tree.{Trees}
 use Rattle.sqlite.specs.Effect.{Database, IsDatabase}
@@ -8,15 +8,15 @@ use Rattle.store_tables.specs.Content.{Content}
 use Rattle.office_store.specs.Tables.{AreOf}
 use Rattle.office_store.specs.Holding.{HasFacts, IsLeft}
 
--- Theorem: if two lists of records have the same tables, they are equal up to order, and have the
--- same time zone.
+-- Theorem: if the same tables encode two lists of records, each with a time zone, then the lists
+-- are equal up to order, and the time zones are equal.
 abbrev pub TablesTellTheirFacts : Type 0
 TablesTellTheirFacts = (zone others_zone : List ℕ) (facts others : List Fact) (content : Content)
     → AreOf zone facts content → AreOf others_zone others content
     → AreSame facts others × (zone ≡ others_zone)
 
--- Theorem: if one database encodes two lists of records, they are equal up to order, and have the
--- same time zone.
+-- Theorem: if one database encodes two lists of records, each with a time zone, then the lists are
+-- equal up to order, and the time zones are equal.
 abbrev pub DatabasesTellTheirFacts : Type 0
 DatabasesTellTheirFacts = (zone others_zone : List ℕ) (facts others : List Fact) (db : Database)
     → HasFacts zone facts db → HasFacts others_zone others db

@@ -45,7 +45,7 @@ change_row k e stands =
     }
 
 -- The row in a meter's journal (its history) for an entry, by its kind. A meter's first entry has
--- none, because the journal stores it apart from its rows.
+-- no journal row, because the journal stores this entry apart from its rows.
 abbrev pub row_by : EntryKind → EntryRow → (stands : Bool) → Option journal.EntryRow
 row_by kind.Opening e stands = None
 row_by kind.Reading e stands = Some (step_row from.Reading e stands)
@@ -63,18 +63,18 @@ row_from e stands = row_by e.kind e stands
 abbrev pub names : (place : ℕ) → Voided → Bool
 names place v = place == v.place
 
--- True if the Boolean answer is correct. The answer says whether one of the result rows of `voids`
--- cancels the meter entry at index `place`.
+-- True if the Boolean answer correctly says whether one of the result rows of `voids` cancels the
+-- meter entry at index `place`.
 abbrev pub ReportsVoided : (voids : List Row) → (place : ℕ) → Bool → Type 0
 ReportsVoided voids place is =
     (vs : List Voided) → voids ≡ map voided_shown vs → is ≡ list_any (names place) vs
 
--- The row in a meter's journal (its history) for an entry. The row is marked as voided if one row
--- in the list of `voids` cancels the entry.
+-- The row in a meter's journal (its history) for an entry. The row is marked as voided if one of
+-- the rows of the table `voids` cancels the entry.
 abbrev pub row_among : List Voided → Entered → Option journal.EntryRow
 row_among vs e = row_from e.entry (not (list_any (names e.entry.place) vs))
 
--- True if the result rows encode all entries of a meter, in order.
+-- True if the result rows encode all entries of a meter, ordered by index.
 pub record ShowsEntries (meter : List ℕ) (facts : List Fact) (rows : List Row) : Type 0 where
   pub entries : List Entered
   pub shown : rows ≡ map entry_shown entries
@@ -90,8 +90,8 @@ pub record ShowsVoids (meter : List ℕ) (facts : List Fact) (rows : List Row) :
   pub all : IsPermutation (filter (is_void_of meter) (map voided (voids_in facts))) voids
   pub sound : HasReadableJournals facts → AllByRecursion IsSoundVoided voids
 
--- True if the journal rows are those that result rows of `entries` and `voids` encode, in the order
--- of the entries. A journal is a meter's history.
+-- True if the given journal rows are those that the result rows of `entries` and `voids` encode, in
+-- the order of the entries. A journal is a meter's history.
 abbrev pub AreJournal : (entries voids : List Row) → List journal.EntryRow → Type 0
 AreJournal entries voids rows = (es : List Entered) (vs : List Voided)
     → entries ≡ map entry_shown es
@@ -111,16 +111,16 @@ IsFaultOfJournal entries voids e = (es : List Entered) (vs : List Voided)
     → voids ≡ map voided_shown vs
     → IsRowFault (AllByRecursion IsSoundEntered es × AllByRecursion IsSoundVoided vs) e
 
--- True if the journal rows are all entries of a meter except its first one, the oldest first. A
--- journal is a meter's history.
+-- True if the given journal rows are all entries of a meter except its first one, the oldest first.
+-- A journal is a meter's history.
 abbrev pub FindsJournal : (meter : List ℕ) → List Fact → List journal.EntryRow → Type 0
 FindsJournal meter facts rows =
     (opening : Opening) → opening_of facts meter ≡ Some opening
     → latest_first rows ≡ rows_of facts opening
 
 -- The conditions under which the meter entry at index `place` can be found. The numbers of the
--- meter's first entry are in their ranges, and the rows are numbered by index. The rules accept the
--- earlier entries that are not voided (cancelled).
+-- meter's first entry are in their ranges, and the rows are numbered by index. The rules for meter
+-- entries accept those entries before `place` that are not voided (cancelled).
 pub record CanBePlaced (opening : Opening) (rows : List journal.EntryRow) (place : ℕ) : Type 0 where
   pub numbers : HasNumbers opening
   pub places : AreNumbered (latest_first rows)

@@ -10,9 +10,10 @@ use Rattle.office_store.specs.Holding.{HoldsFacts, OnlyLooks}
 use Rattle.office_store.specs.Handing.{TookSome, IsStreamFault}
 
 -- The contract of a streaming query, if reads of the database file return the written bytes. The
--- sink receives the rows of the records in order: all rows if the query returns `Ok`, and the first
--- rows if it returns a fault. The query reports `Damaged` only if the records have an invalid
--- value. Every received row has the property `IsRow`, for any content of the database.
+-- sink receives the result rows, which the records determine, in order: all rows if the query
+-- returns `Ok`, and the first rows if it returns a fault. The query reports `Damaged` only if the
+-- records have an invalid value. Every received row has the property `IsRow`, for any content of
+-- the database.
 pub record HandsOn {S K T : Type 0} (g : Ghosts S) (old new : Held S) (takes : K → T → K → Type 0)
     (before after : K)
     (result : Result (Unit {0}) RowFault) (IsRow : T → Type 0) (rows : List Fact → List T)

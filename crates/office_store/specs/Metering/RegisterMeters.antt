@@ -1,5 +1,5 @@
--- The rows of `installations` for the meters that were installed at one accounting register (a
--- named energy counter), one after another.
+-- Defines the rows of `installations` for the meters that were installed at one accounting register
+-- (a named energy counter), one after another.
 use Rattle.std.specs.Prelude.{◌≡◌, ℕ, List, map, filter, reverse, Vec}
 use Rattle.sqlite.specs.Order.{Row}
 use Rattle.office_events.specs.declared.facts.Opening.{Opening}
@@ -22,7 +22,7 @@ rows_at register facts =
 abbrev pub ShowsMetersAt : {Z : Type 0} → (register : List ℕ) → List Fact → Vec Row Z → Type 0
 ShowsMetersAt register facts rows = rows.items ≡ map installed_shown (rows_at register facts)
 
--- True if each row encodes the opening (the record that installs a meter) at the same index of the
--- list of openings.
+-- True if each row of `installations` encodes the opening (the record that installs a meter) at the
+-- same index of the list of openings.
 abbrev pub AreRowsOf : List Fact → List Opening → List stored.Installation → Type 0
 AreRowsOf facts openings rows = AreEach (IsRowOf facts) openings rows

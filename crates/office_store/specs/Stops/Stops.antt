@@ -1,4 +1,4 @@
--- Definitions about the records in the files of a database after a crash.
+-- Defines which records the next open of a database finds in its files after a crash.
 use Rattle.std.specs.Prelude.{◌≡◌, ℕ, List, IsTrue}
 use Rattle.sqlite_disk.specs.declared.Disk.{Ghosts}
 use Rattle.sqlite_wal.specs.Recovery.{Image}
@@ -12,7 +12,7 @@ use Rattle.sqlite.specs.Start.{FindsIn}
 use Rattle.office_events.specs.declared.facts.Fact.{Fact}
 use Rattle.office_store.specs.Holding.{HasFacts, IsLeft, IsOneOf}
 
--- True if a database encodes one of the lists of records in `left`.
+-- True if the database `db` encodes one of the lists of records in `left`.
 pub record HasOneOf (zone : List ℕ) (left : List (List Fact)) (db : Database) : Type 0 where
   pub facts : List Fact
   pub one : IsOneOf left facts
@@ -25,14 +25,14 @@ pub record IsFoundIn (image : Image) (db : Database) : Type 0 where
   pub holds : (trees : Trees) → HoldsDatabase image trees → db.trees ≡ trees
 
 module _ {D : Type 0} (g : Ghosts D) where
-  -- True if the next open finds one of the given lists of records, after any crash that the given
-  -- database files allow.
+  -- True if the next open of the database finds one of the given lists of records, after any crash
+  -- that the given database files allow.
   abbrev pub LeaveInFiles : List ℕ → List (List Fact) → FileStore D g → Type 0
   LeaveInFiles zone left it = (image : Image) (db : Database) → (store_state it).may_leave image
       → IsFoundIn image db → ∥ HasOneOf zone left db ∥₁
 
   -- Theorem: if every database that SQLite may recover from the files encodes one of several lists
-  -- of records, the next open finds one of these lists.
+  -- of records, the next open of the database finds one of these lists.
   abbrev pub StopsLeaveFacts : Type 0
   StopsLeaveFacts = (zone : List ℕ) (left : List (List Fact)) (it : FileStore D g)
       → IsTrue (view it).is_numbered

@@ -7,8 +7,8 @@ use Rattle.store_tables.specs.Content.{Content}
 use Rattle.store_tables.specs.Entries.Rows.{Voided}
 use Rattle.office_store.specs.Going.{Reported}
 
--- True if a query failed, or if it changed nothing and its answer follows from the rows of one
--- table.
+-- True if a query failed, or if it changed nothing and the relation `Answers` holds between the
+-- rows of one table and the query's answer.
 abbrev pub ReportsOf : {X A E : Type 0} → Result A E → (tree : ℕ) → (columns : X → Row)
     → (Answers : List X → A → Type 0) → Content → Content → Type 0
 ReportsOf (Ok a) tree columns Answers = Reported tree columns Answers a

@@ -1,4 +1,4 @@
--- The rows of `intervals` after the energy between two consecutive entries of a meter was
+-- Defines the rows of `intervals` after the energy between two consecutive entries of a meter was
 -- subtracted, split into the quarter hours between the entries.
 use Rattle.std.specs.Prelude.{◌≡◌, ℕ, ◌-◌, ◌≤◌, nat_le, true, Bool, ◌&&◌, List, [], ◌∷◌}
 use Rattle.std.specs.List.{AllByRecursion}
@@ -9,7 +9,7 @@ use Rattle.office_store.specs.Intervals.Trees.{intervals}
 use Rattle.office_store.specs.Intervals.Rows.{Interval, interval_columns, is_of, is_at, start_of}
 use Rattle.office_store.specs.Intervals.StepShares.{EditsIf}
 
--- A row of `intervals` whose energy was reduced by `mwh`, in mWh.
+-- The row of `intervals` after its energy was reduced by `mwh`, in mWh.
 abbrev pub lowered : (mwh : ℕ) → Interval → Interval
 lowered mwh i = record i { share = record i.share { mwh = i.share.mwh - mwh } }
 
@@ -24,16 +24,16 @@ without_shares meter [] rows = rows
 without_shares meter (share ∷ shares) rows =
     without_shares meter shares (without_share meter share rows)
 
--- States that, if the row is the meter's row for the quarter hour of the share, it has at least the
--- share's energy. Therefore this energy can be subtracted. The row's energy is also at most the
--- greatest total of a meter.
+-- States that the meter's row for the quarter hour of a share (the energy in one quarter hour) has
+-- at least the share's energy. Therefore this energy can be subtracted. The row's energy is also at
+-- most the greatest total of a meter.
 abbrev pub HasShare : (meter : List ℕ) → Share → Interval → Type 0
 HasShare meter share i =
     is_at meter share.start i ≡ true
     → (share.mwh ≤ i.share.mwh) × (i.share.mwh ≤ greatest_total)
 
--- True if a meter's energy in several quarter hours can be subtracted: each time, the row of the
--- quarter hour has at least this energy.
+-- True if a meter's energy in several quarter hours can be subtracted one after another: each time,
+-- the row of the quarter hour has at least the energy to subtract.
 abbrev pub HaveShares : (meter : List ℕ) → List Share → List Interval → Type 0
 HaveShares meter [] rows = Unit {0}
 HaveShares meter (share ∷ shares) rows =

@@ -1,4 +1,4 @@
-//! Writes several records in one transaction.
+//! Writes several metering records to the tables of the store in one transaction.
 ghost use Rattle.std.specs.Prelude.{◌≡◌, ℕ, List, false};
 ghost use Rattle.sqlite.specs.Held.{state};
 ghost use Rattle.store_tables.specs.Steps.{IsSameBorrow};
@@ -18,7 +18,7 @@ use sqlite::{Alter, Connection, Transaction};
 use std::alloc::Global;
 use store_tables::{RowFault, check_open};
 
-/// Writes one record to the tables.
+/// Writes one record, for example a meter entry, to the tables of the store.
 fn enter_fact<S: Alter>(
     alloc: Global,
     tx: &mut Transaction<'_, S>,
@@ -42,7 +42,7 @@ fn enter_fact<S: Alter>(
     }
 }
 
-/// Writes records to the tables, one after another.
+/// Writes records to the tables of the store, one after another.
 fn enter_facts<S: Alter>(
     alloc: Global,
     tx: &mut Transaction<'_, S>,
@@ -75,9 +75,9 @@ fn commit_facts<S: Alter>(
     Ok(())
 }
 
-/// Appends records to the stored records, if the rules accept them. Stores either all records or
-/// none, even after a crash. The commit is the last database call. If the list is empty, the
-/// function makes no database call.
+/// Appends records to the stored records, if the rules for records accept them (for example, device
+/// names are unique). Stores either all given records or none, even after a crash. The commit is
+/// the last database call. If the list of records is empty, the function makes no database call.
 pub fn book_facts<S: Alter>(
     alloc: Global,
     conn: &mut Connection<S>,

@@ -25,9 +25,10 @@ pub struct Rollover {
     pub rolls: u8,
 }
 
-/// The changes at the next entry after a voided (cancelled) entry, which now follows the entry
-/// before the voided entry. It gets new rollovers. The energy `out` (since the voided entry) is
-/// removed, and the energy `put` (since the entry before) is added.
+/// The changes at the next entry after a voided (cancelled) entry. The next entry now follows the
+/// entry before the voided entry, and gets a new number of counter rollovers. The energy `out`
+/// (since the voided entry) is subtracted, and the energy `put` (since the entry before the voided
+/// one) is added.
 #[derive(Clone, Copy)]
 pub struct Rejoined {
     pub rollover: Rollover,
@@ -35,9 +36,10 @@ pub struct Rejoined {
     pub put: Step,
 }
 
-/// The changes that voiding (cancelling) an entry makes to its meter. The energy `out`, up to the
-/// voided entry, is removed. `next` has the changes at the next valid entry. The meter's last entry
-/// becomes `last`, and rows of `intervals` that start at `from` or later are deleted.
+/// The changes that voiding (cancelling) an entry makes to its meter. The energy `out`, from the
+/// previous entry to the voided entry, is subtracted. `next` has the changes at the next valid
+/// entry. The meter's last entry becomes `last`, and rows of `intervals` that start at `from` or
+/// later are deleted.
 #[derive(Clone, Copy)]
 pub struct Correction {
     pub out: Step,
@@ -46,8 +48,9 @@ pub struct Correction {
     pub from: u64,
 }
 
-/// Returns the reading in a row of `entries`. Reports any other kind of entry as damage, because a
-/// voided (cancelled) entry and the next entry are readings.
+/// Returns the poll's reading in a row of `entries`. Reports any other kind of entry (such as a
+/// manual reading) as damage, because a voided (cancelled) entry and the next entry are readings of
+/// polls.
 fn reading(entry: &EntryRow) -> Result<Entry, RowFault>
     ensures { IfOk result (IsReadingOf entry.now) }
 {
@@ -66,7 +69,7 @@ fn reading(entry: &EntryRow) -> Result<Entry, RowFault>
 }
 
 /// Computes the step (the energy between two meter entries) from a state of the counter to an
-/// entry. Reports an entry that may not follow the state as damage.
+/// entry. If the rules for meter entries reject the entry after this state, reports it as damage.
 fn step_from(range: u64, last: &Last, entry: &Entry) -> Result<Step, RowFault>
     ensures step { IfOk result (λ step. step ≡ step_to range last.now entry.now) }
     ensures shared { IfOk result CanBeShared }
@@ -90,8 +93,9 @@ fn step_from(range: u64, last: &Last, entry: &Entry) -> Result<Step, RowFault>
     Ok(step)
 }
 
-/// Returns a reading with new rollovers, for the case that the reading directly follows the
-/// counter's state `last`. Returns a reset or a rescale (a change of the scale factor) unchanged.
+/// Returns a reading with a new number of rollovers: 1 if its value is less than the counter's
+/// value in `last`, otherwise 0. Returns a reset or a rescale (a change of the scale factor)
+/// unchanged.
 fn rolled(last: &Last, entry: &Entry) -> Entry
     ensures { result ≡ with_rolls last.now entry.now }
 {
@@ -116,8 +120,8 @@ fn rolls(entry: &Entry) -> u8
     }
 }
 
-/// Computes the new rollovers and energy of the next entry after a voided (cancelled) entry. The
-/// next entry now follows the counter's state `before`.
+/// Computes the new number of rollovers and the new energy of the next entry after a voided
+/// (cancelled) entry. The next entry now follows the counter's state `before`.
 fn rejoin(range: u64, before: &Last, voided: &Last, next: &EntryRow) -> Result<Rejoined, RowFault>
     ensures joins { IfOk result (Rejoins range before.now voided.now next.now) }
     ensures sound { IfOk result CanBeRejoined }
@@ -136,8 +140,8 @@ fn rejoin(range: u64, before: &Last, voided: &Last, next: &EntryRow) -> Result<R
     Ok(Rejoined { rollover, out, put })
 }
 
-/// Computes the new rollovers and energy of the next entry after a voided (cancelled) entry.
-/// Returns None if there is no next entry.
+/// Computes the new number of rollovers and the new energy of the next entry after a voided
+/// (cancelled) entry. Returns None if there is no next entry.
 fn rejoin_next(
     range: u64,
     before: &Last,
@@ -153,9 +157,10 @@ fn rejoin_next(
     }
 }
 
-/// Computes the total energy of a meter after an entry was voided (cancelled). Subtracts the
-/// energies to and from this entry, and adds the energy between its neighbors. Reports a negative
-/// total, or a total above a meter's limit, as damage.
+/// Computes the total energy of a meter after an entry was voided (cancelled). Subtracts the energy
+/// from the previous to the voided entry and from there to the next. Adds the energy from the
+/// previous to the next entry. Reports a negative total, or a total above a meter's limit, as
+/// damage.
 fn total_after(total: u64, out: &Step, next: &Option<Rejoined>) -> Result<u64, RowFault>
     requires total { total ≤ greatest_total }
     requires out { CanBeShared out.now }
@@ -175,8 +180,9 @@ fn total_after(total: u64, out: &Step, next: &Option<Rejoined>) -> Result<u64, R
     Ok(whole - gone)
 }
 
-/// Returns the new last entry of a meter after an entry was voided (cancelled). If the voided entry
-/// was the last, the entry before it becomes the last. Otherwise the last entry is unchanged.
+/// Returns the last entry of a meter after an entry was voided (cancelled). If the voided entry was
+/// the last entry, the entry before it becomes the last. If it was another entry, the last entry is
+/// unchanged.
 fn new_last_entry(
     found: &Surroundings,
     before: Last,
@@ -204,8 +210,8 @@ fn new_last_entry(
 }
 
 /// Returns the time from which voiding (cancelling) an entry deletes the meter's rows of
-/// `intervals`. This time is the meter's last entry. It is 0 if the last entry is the opening (the
-/// first entry), because the meter then has no energy.
+/// `intervals`. This is the time of the meter's last entry. It is 0 if the last entry is the
+/// opening (the first entry), because the meter then has no energy.
 fn end_of_rows(opened: u64, last: &LastRow) -> u64
     requires { last.now.moment ≤ latest_moment }
     ensures end { result ≡ gone_from opened last.now.moment }
@@ -218,8 +224,8 @@ fn end_of_rows(opened: u64, last: &LastRow) -> u64
     }
 }
 
-/// Computes the changes to a meter when an entry is voided (cancelled), from the entries around it.
-/// Reports an entry that can't be voided, or entries in an impossible order, as damage.
+/// Computes the changes to a meter when an entry is voided (cancelled), from the entries before and
+/// after it. Reports an entry that can't be voided, or entries in an impossible order, as damage.
 pub fn correct(found: &Surroundings) -> Result<Correction, RowFault>
     requires { found.now.standing.last.total ≤ greatest_total }
     ensures corrects { IfOk result (Corrects found.now) }

@@ -1,4 +1,4 @@
-//! Writes devices to the tables.
+//! Writes devices to the tables of the store.
 ghost use Rattle.sqlite.specs.Held.{state};
 ghost use Rattle.store_tables.specs.Steps.{IsSameBorrow};
 ghost use Rattle.office_events.specs.declared.facts.Fact.TheVariants as fact;
@@ -11,7 +11,7 @@ use office_events::Device;
 use sqlite::{Alter, Transaction};
 use store_tables::{RowFault, insert_device};
 
-/// Writes a device with the index after the last device.
+/// Writes a device to the table `devices`, with the index after the last device.
 pub fn enter_device<S: Alter>(tx: &mut Transaction<'_, S>, device: &Device) -> Result<(), RowFault>
     ensures same_reference { IsSameBorrow tx.old.conn tx.new.conn }
     ensures does { Goes (state S.Store tx.old.conn.now) (state S.Store tx.new.conn.now) result

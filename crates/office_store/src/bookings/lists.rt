@@ -1,4 +1,4 @@
-//! Writes the point lists of devices to the tables.
+//! Writes the point lists of devices to the tables of the store.
 ghost use Rattle.sqlite.specs.Held.{state};
 ghost use Rattle.store_tables.specs.Steps.{IsSameBorrow};
 ghost use Rattle.office_events.specs.declared.facts.Fact.TheVariants as fact;
@@ -11,7 +11,7 @@ use sqlite::{Alter, Transaction};
 use std::alloc::Global;
 use store_tables::{RowFault, replace_points};
 
-/// Replaces the point list of a device.
+/// Replaces the point list of a device in the tables of the store.
 pub fn enter_list<S: Alter>(
     alloc: Global,
     tx: &mut Transaction<'_, S>,

@@ -1,4 +1,4 @@
-//! Writes entries of meters to the tables.
+//! Writes entries of meters to the tables of the store.
 ghost use Rattle.std.specs.Prelude.{◌≤◌, ◌<◌, IsTrue, IfOk, OnOk};
 ghost use Rattle.sqlite.specs.Held.{state};
 ghost use Rattle.energy_core.specs.Account.{intervals_touched, moment_of};
@@ -33,7 +33,8 @@ pub struct Advance {
     pub step: Step,
 }
 
-/// Returns true if the timestamp and the scale factor of a counter are in the ranges of the tables.
+/// Returns true if the timestamp and the scale factor of a counter are in the ranges that the
+/// store's tables allow.
 pub fn is_sound(last: &Last) -> bool
     ensures moment { IsTrue result → last.now.at ≤ latest_moment }
     ensures scale { IsTrue result → IsTrue (is_within 3 last.now.sf) }
@@ -41,7 +42,7 @@ pub fn is_sound(last: &Last) -> bool
     last.at <= LATEST_MOMENT && is_scale(last.sf)
 }
 
-/// Returns true if the timestamp of a meter entry is in the range of the tables.
+/// Returns true if the timestamp of a meter entry is in the range that the store's tables allow.
 fn is_in_time(entry: &Entry) -> bool
     ensures { IsTrue result → moment_of entry.now ≤ latest_moment }
 {
@@ -50,7 +51,8 @@ fn is_in_time(entry: &Entry) -> bool
     }
 }
 
-/// Computes a meter's state after one more entry. Reports an entry that the rules reject as damage.
+/// Computes a meter's state after one more entry. Reports an entry that the rules for meter entries
+/// reject (for example, an earlier timestamp) as damage.
 fn advance_meter(standing: &Standing, entry: &Entry) -> Result<Advance, RowFault>
     requires { IsSoundLast standing.now.last }
     ensures advances { IfOk result (Advances standing.now entry.now) }
@@ -91,8 +93,8 @@ fn advance_meter(standing: &Standing, entry: &Entry) -> Result<Advance, RowFault
     })
 }
 
-/// Updates a meter's last entry and total energy. If the entry is a closing, also marks the meter
-/// as closed.
+/// Updates a meter's last entry and total energy after a new entry. If this entry is a closing,
+/// also marks the meter as closed.
 pub fn settle<S: Alter>(
     tx: &mut Transaction<'_, S>,
     meter: &str,
@@ -112,7 +114,8 @@ pub fn settle<S: Alter>(
     Ok(())
 }
 
-/// Writes the row of an entry, the energy since the previous entry, and the meter's new state.
+/// Writes the row of a new meter entry, the energy since the previous entry, and the meter's new
+/// state.
 fn book_entry<S: Alter>(
     tx: &mut Transaction<'_, S>,
     meter: &str,
@@ -136,8 +139,8 @@ fn book_entry<S: Alter>(
     settle(tx, meter, advance.last, is_closing)
 }
 
-/// Writes an entry of a meter after its other entries. Writes the row, the energy since the
-/// previous entry by quarter hours, and the meter's new state.
+/// Writes a new entry of a meter after the meter's other entries. Writes the entry's row, the
+/// energy since the previous entry by quarter hours, and the meter's new state.
 pub fn enter_entry<S: Alter>(
     tx: &mut Transaction<'_, S>,
     booked: &BookedEntry,

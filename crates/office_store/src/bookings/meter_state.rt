@@ -16,8 +16,8 @@ use store_tables::{
     LastRow, RowFault, installation_rows, range_rows, read_installation, read_range,
 };
 
-/// The state of a meter: the index of its next entry, its last entry with the total energy, and the
-/// range of its counter.
+/// The state of a meter in the tables: the index of its next entry, its last entry with the total
+/// energy, and the range of its counter.
 #[derive(Clone, Copy, PartialEq, Eq)]
 pub struct Standing {
     pub place: u64,
@@ -43,7 +43,8 @@ fn last_of<S: Alter>(tx: &mut Transaction<'_, S>, meter: &str) -> Result<LastRow
     }
 }
 
-/// Returns how many values the counter of a meter has. Reports a missing range as damage.
+/// Returns how many values the counter of a meter has before it rolls over. Reports a missing range
+/// as damage.
 pub fn range_of<S: Alter>(tx: &mut Transaction<'_, S>, meter: &str) -> Result<u64, RowFault>
     ensures same_reference { IsSameBorrow tx.old.conn tx.new.conn }
     ensures sound { IfOk result IsRange }
@@ -58,7 +59,8 @@ pub fn range_of<S: Alter>(tx: &mut Transaction<'_, S>, meter: &str) -> Result<u6
     }
 }
 
-/// Returns the state of a meter.
+/// Returns the state of a meter: the index of its next entry, its last entry with the total energy,
+/// and its counter's range.
 pub fn standing_of<S: Alter>(tx: &mut Transaction<'_, S>, meter: &str) -> Result<Standing, RowFault>
     ensures same_reference { IsSameBorrow tx.old.conn tx.new.conn }
     ensures place { IfOk result (λ standing. IsPlace standing.place) }

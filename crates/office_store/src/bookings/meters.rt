@@ -1,4 +1,4 @@
-//! Writes the installations of meters to the tables.
+//! Writes the installations of meters to the tables of the store.
 ghost use Rattle.sqlite.specs.Held.{state};
 ghost use Rattle.store_tables.specs.Steps.{IsSameBorrow};
 ghost use Rattle.office_events.specs.declared.facts.Fact.TheVariants as fact;

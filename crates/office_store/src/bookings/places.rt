@@ -1,4 +1,4 @@
-//! Computes the index of the next row of a table.
+//! Computes the index of the next row to insert into a table.
 ghost use Rattle.std.specs.Prelude.{◌≡◌, IfOk};
 ghost use Rattle.sqlite.specs.Held.{state};
 ghost use Rattle.store_tables.specs.Answer.{every};
@@ -23,8 +23,8 @@ use store_tables::{
     last_installation_rows, last_register_rows, whole,
 };
 
-/// Returns the index that follows the index in a row. Reports an index past the greatest index of
-/// the tables as damage.
+/// Returns the index that follows the index in a row. If the row's index is the greatest index that
+/// the tables allow, or out of its range, reports damage.
 fn following(row: &Row) -> Result<u64, RowFault>
     ensures next { result ≡ following_place row.now }
     ensures sound { IfOk result IsPlace }
@@ -37,7 +37,8 @@ fn following(row: &Row) -> Result<u64, RowFault>
     }
 }
 
-/// Returns the index that follows the index in a result's first row, or 1 if the result has no row.
+/// Returns the index that follows the index in the first row of a query's result, or 1 if the
+/// result has no row.
 fn next_place(rows: &[Row]) -> Result<u64, RowFault>
     ensures next { result ≡ next_in rows.now }
     ensures sound { IfOk result IsPlace }
@@ -48,7 +49,7 @@ fn next_place(rows: &[Row]) -> Result<u64, RowFault>
     }
 }
 
-/// Returns the index of the next device.
+/// Returns the index for the row of the next new device.
 pub fn next_device<S: Alter>(tx: &mut Transaction<'_, S>) -> Result<u64, RowFault>
     ensures same_reference { IsSameBorrow tx.old.conn tx.new.conn }
     ensures sound { IfOk result IsPlace }
@@ -59,7 +60,7 @@ pub fn next_device<S: Alter>(tx: &mut Transaction<'_, S>) -> Result<u64, RowFaul
     next_place(&rows)
 }
 
-/// Returns the index of the next rejected reading.
+/// Returns the index that the next rejected reading gets as a row of the table `holds`.
 pub fn next_hold<S: Alter>(tx: &mut Transaction<'_, S>) -> Result<u64, RowFault>
     ensures same_reference { IsSameBorrow tx.old.conn tx.new.conn }
     ensures sound { IfOk result IsPlace }
@@ -70,7 +71,7 @@ pub fn next_hold<S: Alter>(tx: &mut Transaction<'_, S>) -> Result<u64, RowFault>
     next_place(&rows)
 }
 
-/// Returns the index of the next accounting register (a named counter of a device).
+/// Returns the index for the row of the next new accounting register (a named counter of a device).
 pub fn next_register<S: Alter>(tx: &mut Transaction<'_, S>) -> Result<u64, RowFault>
     ensures same_reference { IsSameBorrow tx.old.conn tx.new.conn }
     ensures sound { IfOk result IsPlace }
@@ -81,7 +82,7 @@ pub fn next_register<S: Alter>(tx: &mut Transaction<'_, S>) -> Result<u64, RowFa
     next_place(&rows)
 }
 
-/// Returns the index of the next row of `installations`.
+/// Returns the index for the next new row of `installations`.
 pub fn next_installation<S: Alter>(tx: &mut Transaction<'_, S>) -> Result<u64, RowFault>
     ensures same_reference { IsSameBorrow tx.old.conn tx.new.conn }
     ensures sound { IfOk result IsPlace }
@@ -93,7 +94,7 @@ pub fn next_installation<S: Alter>(tx: &mut Transaction<'_, S>) -> Result<u64, R
     next_place(&rows)
 }
 
-/// Returns the index of the next entry of a meter.
+/// Returns the index for the next new entry of a meter.
 pub fn next_entry<S: Alter>(tx: &mut Transaction<'_, S>, meter: &str) -> Result<u64, RowFault>
     ensures same_reference { IsSameBorrow tx.old.conn tx.new.conn }
     ensures sound { IfOk result IsPlace }

@@ -1,4 +1,5 @@
-//! Writes polls, their outcomes, rejected readings and stored requests to the tables.
+//! Writes polls, their outcomes, rejected readings and accepted requests (stored to detect retries)
+//! to the tables.
 ghost use Rattle.sqlite.specs.Held.{state};
 ghost use Rattle.store_tables.specs.Steps.{IsSameBorrow};
 ghost use Rattle.office_events.specs.declared.facts.Fact.TheVariants as fact;
@@ -15,7 +16,7 @@ use store_tables::{
     insert_rejected,
 };
 
-/// Writes a poll that was started.
+/// Writes a started poll to the table `polls`.
 pub fn enter_poll<S: Alter>(tx: &mut Transaction<'_, S>, poll: &Poll) -> Result<(), RowFault>
     ensures same_reference { IsSameBorrow tx.old.conn tx.new.conn }
     ensures does { Goes (state S.Store tx.old.conn.now) (state S.Store tx.new.conn.now) result
@@ -29,7 +30,7 @@ pub fn enter_poll<S: Alter>(tx: &mut Transaction<'_, S>, poll: &Poll) -> Result<
     Ok(())
 }
 
-/// Writes the outcome of a poll.
+/// Writes the outcome of a poll to the table `outcomes`.
 pub fn enter_outcome<S: Alter>(
     tx: &mut Transaction<'_, S>,
     ended: &EndedPoll,
@@ -45,7 +46,7 @@ pub fn enter_outcome<S: Alter>(
     Ok(())
 }
 
-/// Writes a rejected reading with the index after the last rejected reading.
+/// Writes a rejected reading to the table `holds`, with the index after the last rejected reading.
 pub fn enter_hold<S: Alter>(tx: &mut Transaction<'_, S>, held: &HeldReading) -> Result<(), RowFault>
     ensures same_reference { IsSameBorrow tx.old.conn tx.new.conn }
     ensures does { Goes (state S.Store tx.old.conn.now) (state S.Store tx.new.conn.now) result

@@ -1,4 +1,4 @@
-//! Writes accounting registers (named counters of devices) to the tables.
+//! Writes accounting registers (named counters of devices) to the tables of the store.
 ghost use Rattle.std.specs.Prelude.{◌≡◌, true};
 ghost use Rattle.sqlite.specs.Held.{state};
 ghost use Rattle.office_events.specs.declared.facts.Fact.TheVariants as fact;
@@ -35,7 +35,7 @@ fn is_narrow(register: &Register) -> bool
 }
 
 /// Writes an accounting register (a named energy counter of a device) with the index after the last
-/// one.
+/// accounting register.
 pub fn enter_register<S: Alter>(
     tx: &mut Transaction<'_, S>,
     register: &Register,

@@ -24,8 +24,8 @@ pub struct Neighbours {
     pub next: Option<EntryRow>,
 }
 
-/// An entry of a meter and its neighbors, with the meter's state and the time of the meter's
-/// opening (the first entry).
+/// An entry of a meter and the nearest entries before and after it that are not voided. Also the
+/// meter's state and the time of its opening (the first entry).
 #[derive(Clone, Copy)]
 pub struct Surroundings {
     pub standing: Standing,
@@ -33,7 +33,8 @@ pub struct Surroundings {
     pub near: Neighbours,
 }
 
-/// Returns the entry of a meter at index `place`. Reports a missing entry as damage.
+/// Returns the entry of a meter at index `place`. If the entry is missing, returns the error
+/// `Damaged`, which reports a damaged file.
 fn entry_there<S: Alter>(
     tx: &mut Transaction<'_, S>,
     meter: &str,
@@ -67,7 +68,8 @@ fn entry_before<S: Alter>(
     entry_there(tx, meter, before)
 }
 
-/// Returns the next meter entry after index `place` that is not voided (cancelled), or None.
+/// Returns the next meter entry after index `place` that is not voided (cancelled), or None if no
+/// such entry exists.
 fn entry_after<S: Alter>(
     tx: &mut Transaction<'_, S>,
     meter: &str,
@@ -115,8 +117,9 @@ fn opened_at<S: Alter>(tx: &mut Transaction<'_, S>, meter: &str) -> Result<u64, 
     Ok(opening.moment)
 }
 
-/// Returns a meter entry with the nearest entries that are not voided (cancelled), and the state of
-/// the meter. Reads no other entry, and only the rows of `voids` between the returned entries.
+/// Returns a meter entry, the nearest entries before and after it that are not voided (cancelled),
+/// and the state of the meter. Reads no other entry, and only the rows of `voids` between the
+/// returned entries.
 pub fn surroundings_of<S: Alter>(
     tx: &mut Transaction<'_, S>,
     meter: &str,

@@ -42,8 +42,8 @@ fn roll_next<S: Alter>(
     Ok(())
 }
 
-/// Subtracts the energy between the voided (cancelled) entry and the next entry from `intervals`.
-/// If there is no next entry, makes no database call.
+/// Subtracts the energy between a voided (cancelled) entry and the next entry from `intervals`. If
+/// there is no next entry, makes no database call.
 fn take_next<S: Alter>(
     tx: &mut Transaction<'_, S>,
     meter: &str,
@@ -99,8 +99,9 @@ fn take_steps<S: Alter>(
     Ok(())
 }
 
-/// Replaces the energies to and from a voided (cancelled) entry in `intervals` by the energy
-/// between the entries before and after it.
+/// Replaces energies in `intervals` after an entry was voided (cancelled). The energy from the
+/// previous to the next entry replaces the energies from the previous to the voided entry and from
+/// there to the next. Then deletes the meter's rows that start at `made.from` or later.
 fn exchange_rows<S: Alter>(
     tx: &mut Transaction<'_, S>,
     meter: &str,
@@ -158,10 +159,9 @@ fn book_void<S: Alter>(
 }
 
 /// Voids (cancels) a meter's entry. The entry's row remains, and a row of `voids` cancels it. The
-/// next entry that is not voided gets the rollovers since the entry that now precedes it. The
-/// meter's total energy and its rows of `intervals` become those of the entries that are not
-/// voided. The cost grows with the number of quarter hours between the neighbors of the voided
-/// entry.
+/// next entry that is not voided gets the number of rollovers since the entry that now precedes it.
+/// The meter's total energy and its rows of `intervals` become those of the entries that are not
+/// voided. The cost grows with the number of quarter hours between the previous and the next entry.
 pub fn enter_void<S: Alter>(
     tx: &mut Transaction<'_, S>,
     voided: &VoidedEntry,

@@ -1,4 +1,4 @@
-//! Queries for devices.
+//! Queries for the devices in the store.
 ghost use Rattle.std.specs.Prelude.{◌≡◌, ◌&&◌, nat_le, if◌then◌else◌, false, reverse};
 ghost use Rattle.std.specs.Prelude.{string_bytes};
 ghost use Rattle.office_books.specs.Facts as facts_of;

@@ -13,8 +13,8 @@ use store_tables::{
     latest_void,
 };
 
-/// Returns the latest timestamp in the table `entries`, or 0 if the table is empty. A meter's first
-/// entry is its opening, made at installation.
+/// Returns the latest timestamp in the table `entries`, or 0 if the table is empty. The table also
+/// has each meter's first entry, its opening.
 fn entered<S: Alter>(conn: &mut Connection<S>) -> Result<u64, RowFault>
     requires { conn.old.in_transaction ≡ false }
     ensures { Finds S.Store conn.old conn.new result
@@ -65,7 +65,8 @@ fn ended<S: Alter>(conn: &mut Connection<S>) -> Result<u64, RowFault>
     Ok(latest_outcome(conn)?.unwrap_or(0))
 }
 
-/// Returns the latest timestamp of all stored requests, or 0 if no request is stored.
+/// Returns the latest timestamp of all stored requests (kept to detect retries), or 0 if no request
+/// is stored.
 fn replied<S: Alter>(conn: &mut Connection<S>) -> Result<u64, RowFault>
     requires { conn.old.in_transaction ≡ false }
     ensures { Finds S.Store conn.old conn.new result
@@ -98,8 +99,8 @@ fn polled<S: Alter>(conn: &mut Connection<S>) -> Result<u64, RowFault>
     Ok(started.max(ended))
 }
 
-/// Returns the latest timestamp of all rejected readings and stored requests, or 0 if none is
-/// stored.
+/// Returns the latest timestamp of all rejected readings and stored requests (kept to detect
+/// retries), or 0 if none is stored.
 fn noted<S: Alter>(conn: &mut Connection<S>) -> Result<u64, RowFault>
     requires { conn.old.in_transaction ≡ false }
     ensures { Finds S.Store conn.old conn.new result
@@ -110,8 +111,8 @@ fn noted<S: Alter>(conn: &mut Connection<S>) -> Result<u64, RowFault>
     Ok(held.max(replied))
 }
 
-/// Returns the latest timestamp of all polls, outcomes, rejected readings and stored requests, or 0
-/// if none is stored.
+/// Returns the latest timestamp of all polls, outcomes, rejected readings and stored requests (kept
+/// to detect retries), or 0 if none is stored.
 fn asked<S: Alter>(conn: &mut Connection<S>) -> Result<u64, RowFault>
     requires { conn.old.in_transaction ≡ false }
     ensures { Finds S.Store conn.old conn.new result

@@ -15,7 +15,7 @@ pub(crate) fn want_of_memory() -> RowFault
     RowFault::Sql(Error::SqliteFailure(ErrorCode::OutOfMemory))
 }
 
-/// Appends an item. Returns the out-of-memory error if the vector can't grow.
+/// Appends an item to a vector. Returns the out-of-memory error if the vector can't grow.
 pub(crate) fn push_item<T: Drop>(items: &mut Vec<T>, item: T) -> Result<(), RowFault>
     ensures put { OnOk result (items.new.items ≡ items.old.items ++ item ∷ []) }
     ensures fault { IfErr result (λ e. e ≡ Sql (SqliteFailure OutOfMemory)) }

@@ -1,5 +1,5 @@
-//! Queries for the SunSpec points that a device is polled for, and for the plan of their reads. A
-//! plan is the fewest Modbus reads that cover a point list.
+//! Queries for the SunSpec points that a device is polled for, and for the plan of the device's
+//! reads. A plan is the fewest Modbus reads that cover a point list.
 ghost use Rattle.std.specs.Prelude.{◌≡◌, false, Some, IfOk, IfErr, IsUtf8};
 ghost use Rattle.office_books.specs.Facts.{list_of};
 ghost use Rattle.read_plan.specs.PlannedLists.{IsPlanned};
@@ -25,8 +25,8 @@ use sqlite::{Alter, Connection};
 use std::alloc::Global;
 use store_tables::RowFault;
 
-/// Plans the Modbus reads that cover a device's SunSpec points. Reports points that break a rule of
-/// point lists as `Damaged`.
+/// Plans the Modbus reads that cover a device's SunSpec points. Reports points that form no valid
+/// point list (for example, two points with the same name) as `Damaged`.
 fn with_plan(alloc: Global, points: Vec<ListedPoint>) -> Result<PlannedList, RowFault>
     ensures points { IfOk result (λ list. list.points ≡ points.items) }
     ensures planned { IfOk result IsPlanned }
@@ -91,8 +91,9 @@ pub fn read_count<S: Alter>(
     }
 }
 
-/// Returns the spans of Modbus registers that a plan reads. The first is the read with the index
-/// `from`; at most `most` spans are returned.
+/// Returns the spans of Modbus registers that a plan (the fewest reads that cover a point list)
+/// reads. The first span is that of the read with the index `from`; at most `most` spans are
+/// returned.
 fn spans_of(
     alloc: Global,
     list: &PlannedList,
@@ -108,8 +109,8 @@ fn spans_of(
     }
 }
 
-/// Returns the spans of Modbus registers that a device is polled for. The first is the planned read
-/// with the index `from`; at most `most` spans are returned.
+/// Returns the spans of Modbus registers that a device is polled for. The first span is that of the
+/// planned read with the index `from`; at most `most` spans are returned.
 pub fn reads<S: Alter>(
     alloc: Global,
     conn: &mut Connection<S>,

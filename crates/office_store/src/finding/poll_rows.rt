@@ -1,4 +1,4 @@
-//! Queries for polls.
+//! Queries for the polls in the store, and for their outcomes.
 ghost use Rattle.std.specs.Prelude.{◌≡◌, ◌≤◌, false, true, length, string_bytes};
 ghost use Rattle.std.specs.Prelude.{IfOk, IfErr, IfSome};
 ghost use Rattle.office_events.specs.Names.{is_name};
@@ -147,7 +147,7 @@ pub fn poll<S: Alter>(conn: &mut Connection<S>, number: u64) -> Result<Option<Po
     }
 }
 
-/// Returns how many polls were started.
+/// Returns how many polls the store has, which is the number of the poll that was started last.
 pub fn poll_count<S: Alter>(conn: &mut Connection<S>) -> Result<u64, RowFault>
     requires { conn.old.in_transaction ≡ false }
     ensures { Finds S.Store conn.old conn.new result

@@ -17,7 +17,7 @@ fn read_share(row: &Row) -> Result<Share, RowFault>
     Ok(Share { start, mwh })
 }
 
-/// A reader of the result rows of `intervals`, which have the energy of quarter hours.
+/// A reader that converts result rows of a query on `intervals` to the energies of quarter hours.
 #[derive(Drop)]
 pub(crate) struct Shares;
 

@@ -1,5 +1,5 @@
-//! Adds the energy of a step to the table `intervals`. A step is the energy between two consecutive
-//! entries of a meter.
+//! Adds the energy of a step (the energy between two consecutive entries of a meter) to the table
+//! `intervals`.
 ghost use Rattle.std.specs.Prelude.{◌<◌, ◌≤◌, [], ◌∷◌};
 ghost use Rattle.sqlite.specs.Held.{state};
 ghost use Rattle.store_tables.specs.Steps.{Steps, IsSameBorrow};
@@ -36,7 +36,7 @@ fn add_share<S: Alter>(
 }
 
 /// Adds the energy between two consecutive entries of a meter to the meter's rows of `intervals`.
-/// Each quarter hour between the entries gets its part of the energy, even if it is 0 mWh.
+/// Each quarter hour between the entries gets its part of this energy, even if the part is 0 mWh.
 pub fn book_step<S: Alter>(
     tx: &mut Transaction<'_, S>,
     meter: &str,

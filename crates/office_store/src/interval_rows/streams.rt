@@ -13,7 +13,8 @@ use office_books::RowSink;
 use sqlite::{Alter, Connection, params};
 use store_tables::{RowFault, number};
 
-/// Streams the energy of a meter by quarter hours to `sink`, ordered by their starts.
+/// Streams the energy of a meter by quarter hours to `sink`, ordered by the starts of the quarter
+/// hours.
 pub fn meter_intervals<S: Alter, K: RowSink<Share>>(
     conn: &mut Connection<S>,
     meter: &str,

@@ -1,4 +1,5 @@
-//! Theorems about the tables of a store of metering records.
+//! Theorems that the tables of a store of metering records determine the records that they encode,
+//! also after a crash.
 ghost use Rattle.office_store.specs.Laws.Files.{NewFilesHaveNone, OpenedFilesKeepTheirs};
 ghost use Rattle.office_store.specs.Laws.Files.{NewestFilesHaveTheirs, FoundFilesKeepTheirs};
 ghost use Rattle.office_store.specs.Laws.Laws.{DatabasesTellTheirFacts, LeftFactsAreFound, TablesTellTheirFacts};
@@ -6,8 +7,8 @@ ghost use Rattle.office_store.specs.Laws.Laws.{DatabasesTellTheirFacts, LeftFact
 use meter_journal::rows_are_kept;
 use read_plan::lists_are_planned_once;
 
-/// Theorem: tables determine their records. Two lists of records with the same tables are equal up
-/// to order, and have the same time zone.
+/// Theorem: the tables determine the records. If the same tables encode two lists of records, each
+/// with a time zone, the lists are equal up to order, and the time zones are equal.
 pub fn tables_give_their_records()
     ensures { TablesTellTheirFacts }
 {
@@ -15,8 +16,8 @@ pub fn tables_give_their_records()
     lists_are_planned_once();
 }
 
-/// Theorem: a database determines its records. Two lists of records in one database are equal up to
-/// order, and have the same time zone.
+/// Theorem: a database determines its records. If one database encodes two lists of records, each
+/// with a time zone, the lists are equal up to order, and the time zones are equal.
 pub fn databases_give_their_records()
     ensures { DatabasesTellTheirFacts }
 {
@@ -29,26 +30,27 @@ pub fn left_facts_are_found()
     ensures { LeftFactsAreFound }
 {}
 
-/// Theorem: if a file was just created, its tables encode no records.
+/// Theorem: if a database file was just created, its tables encode no records.
 pub fn new_files_have_none()
     ensures { NewFilesHaveNone }
 {}
 
-/// Theorem: opening a file of any version keeps the file's records.
+/// Theorem: opening a database file of any version keeps the file's records.
 pub fn opened_files_keep_theirs()
     ensures { OpenedFilesKeepTheirs }
 {}
 
-/// Theorem: for files of version 3, two definitions of the encoded records agree. These are
-/// `HasFactsIn` (for files of any version) and `HasFacts` (for current tables).
+/// Theorem: for files of version 3, two definitions of the records that a file encodes are
+/// equivalent. These are `HasFactsIn` (for files of any version) and `HasFacts` (for current
+/// tables).
 pub fn newest_files_have_theirs()
     ensures { NewestFilesHaveTheirs }
 {
     opened_files_keep_theirs();
 }
 
-/// Theorem: two databases with the same B-trees encode the same records. The next open of a file
-/// therefore finds the file's records.
+/// Theorem: two databases with the same B-trees encode the same records. So the next open of a
+/// database file finds the file's records.
 pub fn found_files_keep_theirs()
     ensures { FoundFilesKeepTheirs }
 {}

@@ -1,5 +1,5 @@
-//! Builds an entry of a meter from its row and the nearest rows before and after it, instead of
-//! reading all rows of the meter.
+//! Builds an entry of a meter from its row and the nearest rows before and after it that are not
+//! voided (cancelled), instead of reading all rows of the meter.
 ghost use Rattle.std.specs.Prelude.{◌≡◌, ◌≤◌, false, IfOk, IfSome, IsUtf8};
 ghost use Rattle.office_books.specs.Lawful.{AreLawful};
 ghost use Rattle.office_books.specs.Ranges.{IsSound};
@@ -23,8 +23,8 @@ use sqlite::{Alter, Connection, Row};
 use std::alloc::Global;
 use store_tables::{EntryRow, GREATEST_PLACE, RowFault, check_open, entry_at};
 
-/// The indices of the nearest meter entries before and after an entry that are not voided
-/// (cancelled), and whether the entry itself is not voided.
+/// The indices of the nearest entries before and after a meter entry that are not voided
+/// (cancelled), and whether the meter entry itself is not voided.
 #[derive(Clone, Copy)]
 pub(crate) struct Sides {
     pub before: u64,
@@ -42,7 +42,7 @@ pub(crate) struct Around {
 }
 
 /// Returns true if one of `voids`, the rows that cancel readings, cancels the entry at index
-/// `place`. Returns None if a row can't be read.
+/// `place`. Returns None if a row of `voids` can't be parsed.
 fn is_named(voids: &[Row], place: u64) -> Option<bool>
     ensures { IfSome result (ReportsVoided voids.now place) }
 {
@@ -53,7 +53,7 @@ fn is_named(voids: &[Row], place: u64) -> Option<bool>
 }
 
 /// Returns the index of the last entry before `place` that no row of `voids` cancels, or 1 for the
-/// meter's first entry. Returns None if a row can't be read.
+/// meter's first entry. Returns None if a row of `voids` can't be parsed.
 fn place_before(voids: &[Row], place: u64) -> Option<u64>
     requires following { 2 ≤ place }
     ensures before { IfSome result (λ n. ByVoids (λ vs. IsBefore vs place n) voids.now) }
@@ -68,8 +68,8 @@ fn place_before(voids: &[Row], place: u64) -> Option<u64>
     Some(1)
 }
 
-/// Returns the first index after `place` that no row of `voids` cancels. Returns None if a row
-/// can't be read, or if every later index is cancelled.
+/// Returns the first index after `place` that no row of `voids` cancels. Returns None if a row of
+/// `voids` can't be parsed, or if every later index is cancelled.
 fn place_after(voids: &[Row], place: u64) -> Option<u64>
     requires place { place ≤ greatest_place }
     ensures after { IfSome result (λ n. ByVoids (λ vs. IsAfter vs place n) voids.now) }
@@ -83,9 +83,9 @@ fn place_after(voids: &[Row], place: u64) -> Option<u64>
     None
 }
 
-/// Returns the indices of the nearest entries around `place` that are not voided (cancelled), and
-/// whether the entry at `place` is not voided. Returns None if a row can't be read, or if `place`
-/// is 1 or less, or above the greatest index.
+/// Returns the indices of the nearest entries before and after `place` that are not voided
+/// (cancelled), and whether the entry at `place` is not voided. Returns None if a row of `voids`
+/// can't be parsed, or if `place` is 1 or less, or above the greatest index.
 fn sides_of(voids: &[Row], place: u64) -> Option<Sides>
     ensures following { IfSome result (λ sides. 2 ≤ place) }
     ensures place { IfSome result (λ sides. place ≤ greatest_place) }
@@ -121,8 +121,9 @@ fn row_there<S: Alter>(
     entry_at(conn, meter, place)
 }
 
-/// Queries the row of the meter entry at `place`, and the rows of its neighbors at the indices in
-/// `sides`. Returns None if the row of the entry, or the row before it, is missing.
+/// Queries the row of the meter entry at `place`, and the rows of the entries before and after it
+/// at the indices in `sides`. Returns None if the row of the entry, or the row before it, is
+/// missing.
 fn rows_around<S: Alter>(
     conn: &mut Connection<S>,
     meter: &str,
@@ -162,8 +163,8 @@ fn next_row(next: &Option<EntryRow>) -> Option<meter_journal::EntryRow>
     }
 }
 
-/// Returns the state of a meter with its counter as of an earlier entry. The energy in this state
-/// is the meter's total energy, because the energy up to the earlier entry is not known.
+/// Returns the state of a meter with the counter's state after the entry `before`. The energy in
+/// this state is the meter's total energy, because the energy up to `before` is not known.
 fn stood_after(whole: &Installation, before: &EntryRow) -> Installation
     ensures { result ≡ stood whole.now before.now }
 {
@@ -175,8 +176,8 @@ fn stood_after(whole: &Installation, before: &EntryRow) -> Installation
     }
 }
 
-/// Builds an entry from its row and the rows around it. Returns None if the row is a meter's first
-/// entry, or if a number is out of its range.
+/// Builds a meter entry from its row and the rows before and after it. Returns None if the row is a
+/// meter's first entry, or if a number is out of its range.
 fn seen(whole: &Installation, around: &Around, stands: bool) -> Option<EntryContext>
     ensures seen { IfSome result (IsSeen whole.now around.now stands) }
     ensures sound { IfSome result (λ found. IsSound found.before) }
@@ -190,8 +191,8 @@ fn seen(whole: &Installation, around: &Around, stands: bool) -> Option<EntryCont
     Some(EntryContext { before, row, next })
 }
 
-/// Returns the meter entry at index `place` from its row and the rows around it. Returns None if
-/// these rows don't determine the entry.
+/// Returns the meter entry at index `place` from its row and the nearest rows before and after it.
+/// Returns None if these rows don't determine the entry.
 fn entry_from_neighbours<S: Alter>(
     conn: &mut Connection<S>,
     meter: &str,
@@ -242,8 +243,9 @@ fn entry_from_all_rows<S: Alter>(
 }
 
 /// Returns the meter entry at index `place`, with the meter's total energy instead of the energy
-/// before the entry. Reads the meter's voids (cancelled readings) and the rows around the entry. If
-/// these rows don't determine the entry, reads all entries of the meter.
+/// before the entry. Reads the meter's voids (cancellations of entries), the entry's row, and the
+/// nearest rows before and after it. If these rows don't determine the entry, reads all entries of
+/// the meter.
 pub fn entry_near<S: Alter>(
     alloc: Global,
     conn: &mut Connection<S>,

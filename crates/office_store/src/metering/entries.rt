@@ -60,7 +60,7 @@ pub(crate) fn rows<S: Alter>(
     journal_rows(alloc, &entries, &voids)
 }
 
-/// Returns the meter entry at index `place`, with the meter's state before the entry and the next
+/// Returns the meter entry at index `place`, the meter's state before this entry, and the next
 /// entry that is not voided (cancelled). Returns None for index 1. Reads all entries of the meter.
 pub fn entry<S: Alter>(
     alloc: Global,

@@ -38,8 +38,8 @@ fn listed(
     }
 }
 
-/// Returns the entries of a meter in order, including voided (cancelled) entries. Begins at index
-/// `from`, and returns at most `most` entries. Reads all entries of the meter.
+/// Returns the entries of a meter ordered by index, including voided (cancelled) entries. Begins at
+/// index `from`, and returns at most `most` entries. Reads all entries of the meter.
 pub fn meter_entries<S: Alter>(
     alloc: Global,
     conn: &mut Connection<S>,

@@ -34,7 +34,7 @@ pub fn meter<S: Alter>(
 }
 
 /// Returns the state of the meter that was installed last at an accounting register (a named
-/// counter of a device). Returns None if no meter was installed there.
+/// counter of a device). Returns None if no meter was installed at this register.
 pub fn installation<S: Alter>(
     conn: &mut Connection<S>,
     register: &Name,
@@ -62,7 +62,7 @@ fn last_place<S: Alter>(conn: &mut Connection<S>) -> Result<Option<u64>, RowFaul
     last_installation(conn)
 }
 
-/// Returns how many meters were installed.
+/// Returns how many meters the store records as installed, closed meters included.
 pub fn installation_count<S: Alter>(conn: &mut Connection<S>) -> Result<usize, RowFault>
     requires { conn.old.in_transaction ≡ false }
     ensures { Finds S.Store conn.old conn.new result

@@ -32,8 +32,8 @@ fn first(rows: &[EntryRow], count: usize) -> &[EntryRow]
     }
 }
 
-/// Returns the counter's state and the total energy after the meter entries in `rows`. Reports
-/// entries that the rules don't allow in this order as `Damaged`.
+/// Returns the counter's state and the total energy after the meter entries in `rows`. If the rules
+/// for meter entries don't allow the entries in this order, reports `Damaged`.
 pub fn tally(meter: &Installed, rows: &[EntryRow]) -> Result<Tally, RowFault>
     requires range_low { MIN_RANGE ≤ meter.now.range }
     requires range_high { meter.now.range ≤ MAX_RANGE }
@@ -49,8 +49,8 @@ pub fn tally(meter: &Installed, rows: &[EntryRow]) -> Result<Tally, RowFault>
     }
 }
 
-/// Returns the state of a meter after the entries in `rows`. Reports entries that the rules don't
-/// allow in this order as `Damaged`.
+/// Returns the state of a meter after the entries in `rows`. If the rules for meter entries don't
+/// allow the entries in this order, reports `Damaged`.
 fn stood_after(whole: &Installation, rows: &[EntryRow]) -> Result<Installation, RowFault>
     ensures stands { let es = entries_in (lists.latest_first rows.now) in
         IfOk result (λ row. row ≡ meters.standing whole.now.opening es whole.now.ended) }
@@ -66,7 +66,7 @@ fn stood_after(whole: &Installation, rows: &[EntryRow]) -> Result<Installation, 
 }
 
 /// Finds the entry at index `place` in a meter's journal (its history, the oldest row first).
-/// Returns it with the meter's state before the entry, and with the next entry that is not voided
+/// Returns this entry, the meter's state before it, and the next entry that is not voided
 /// (cancelled).
 pub(crate) fn placed(
     whole: &Installation,

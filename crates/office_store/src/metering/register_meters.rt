@@ -57,8 +57,8 @@ fn installed_at<S: Alter>(
     installed_in(&rows)
 }
 
-/// Returns the states of the meters that the rows of `installations` in `rows` name, in the same
-/// order.
+/// Returns the states of the meters that the rows of `installations` in `rows` name. The states
+/// have the order of `rows`.
 fn standing_all<S: Alter>(
     alloc: Global,
     conn: &mut Connection<S>,

@@ -39,7 +39,7 @@ pub(crate) fn row_at<S: Alter>(
     installation_at(conn, register)
 }
 
-/// Queries the range of a meter's counter: how many values the counter has.
+/// Queries the range of a meter's counter: how many values the counter has before it rolls over.
 pub(crate) fn range<S: Alter>(
     conn: &mut Connection<S>,
     meter: &str,

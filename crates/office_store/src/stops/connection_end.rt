@@ -11,9 +11,9 @@ use crate::stops::laws::stops_leave_facts;
 use sqlite::{Connection, FileStore};
 use sqlite_disk::Disk;
 
-/// Closes a connection to files, and returns the store of the files. Suppose that any crash of the
-/// connection leaves one of several lists of records. Then the next open after a crash finds one of
-/// these lists, whether the crash comes before or after closing.
+/// Closes the connection to a store's database files, and returns the files. Suppose that any crash
+/// of the connection leaves one of several lists of records. Then the next open after a crash finds
+/// one of these lists, whether the crash comes before or after closing.
 pub fn close_connection<D: Disk + Drop>(connection: Connection<FileStore<D>>) -> FileStore<D>
     ensures before { IsClean (view result) → (zone : List ℕ) (left : List (List Fact))
         → LeavesFacts over_files zone connection left

@@ -36,8 +36,8 @@ pub fn place_before<S: Alter>(
     Ok(1)
 }
 
-/// Returns the first index after `place` that no row of `voids` cancels. Queries one index after
-/// another, upward from `place`.
+/// Returns the first index after `place` that no row of `voids` cancels (each such row cancels one
+/// meter entry). Queries one index after another, upward from `place`.
 pub fn place_after<S: Alter>(
     tx: &mut Transaction<'_, S>,
     meter: &str,

@@ -58,7 +58,7 @@ pub fn take_step<S: Alter>(
     Ok(())
 }
 
-/// Deletes the rows of `intervals` for a meter that start at `from` or later.
+/// Deletes a meter's rows of `intervals` whose quarter hours start at `from` or later.
 pub fn drop_rows_from<S: Alter>(
     tx: &mut Transaction<'_, S>,
     meter: &str,

@@ -30,7 +30,8 @@ use Rattle.run_http.specs.Pieces.{rows_between}
 use Rattle.run_http.proofs.Copies.StayingShares.{StartFrom, none_start, not_before}
 use Rattle.run_http.proofs.Copies.StayingRows.{entries_come_after, own_name, rows_before_stay}
 
--- Lemmas on the rows of a list that start in a time span.
+-- Lemmas on those interval rows (each the energy of one quarter hour) of a list that start in a
+-- time span.
 
 le_true : (a b : ℕ) → a ≤ b → nat_le a b ≡ true
 le_true a b le = grind (arith, nat_tests, le)
@@ -57,12 +58,12 @@ and_false : (b : Bool) → b && false ≡ false
 and_false true = refl
 and_false false = refl
 
--- Two filters return the same rows of a list if two conditions hold. Both keep or both drop the
--- first row, and both return the same rows of the rest.
+-- Two filters return the same rows of a list if two conditions hold: both keep or both drop the
+-- first row, and both return the same of the later rows.
 kept_same : (a b : Bool) (row : Share) (left right : List Share) → a ≡ b → left ≡ right → cond a (row ∷ left) left ≡ cond b (row ∷ right) right
 kept_same a b row left right same rest = ap (λ c. cond c (row ∷ left) left) same ∙ ap (λ rs. cond b (row ∷ rs) rs) rest
 
--- If a time span is empty, then no row starts in it.
+-- If a time span is empty, then no interval row (energy of one quarter hour) starts in it.
 pub empty_within : (from till : ℕ) (rows : List Share) → till ≤ from → rows_within (Between from till) rows ≡ []
 empty_within from till [] le = refl
 empty_within from till (row ∷ rows) le =
@@ -75,16 +76,16 @@ empty_within from till (row ∷ rows) le =
       | inr e ↦ cond-false _ _ _ (ap (λ b. b && nat_lt row.start till) e) ∙ empty_within from till rows le
     ]
 
--- If all rows of a list start at `till` or later, then none of them is in a time span that ends at
--- `till`.
+-- If all interval rows (energies of quarter hours) of a list start at `till` or later, then no row
+-- is in a time span that ends at `till`.
 none_within : (from till : ℕ) (rows : List Share) → StartFrom till rows → rows_within (Between from till) rows ≡ []
 none_within from till [] h = refl
 none_within from till (row ∷ rows) h =
     cond-false _ _ _ (ap (λ b. nat_le from row.start && b) (not_before till row.start h.0) ∙ and_false (nat_le from row.start))
     ∙ none_within from till rows h.1
 
--- If all rows start at `at` or later, a time span that begins earlier has the same rows as the time
--- span from `at` on.
+-- Suppose that all interval rows (energies of quarter hours) start at `at` or later. Then a time
+-- span that begins earlier has the same rows as the time span from `at` to the same end.
 same_from : (from at till : ℕ) (rows : List Share) → from ≤ at → StartFrom at rows → rows_within (Between from till) rows ≡ rows_within (Between at till) rows
 same_from from at till [] le h = refl
 same_from from at till (row ∷ rows) le h =
@@ -97,8 +98,8 @@ of_first : (b : Bool) (row : Share) (all first others : List Share) → all ≡ 
 of_first true row all first others is = ap (λ rs. row ∷ rs) is
 of_first false row all first others is = is
 
--- Interval rows in order of time: the rows of a time span are those before a time `at` in the span,
--- followed by those from `at` on.
+-- Suppose that interval rows (energies of quarter hours) are in order of time. Then the rows of a
+-- time span are those before a time `at` in the span, followed by those from `at` on.
 pub in_parts : (from at till : ℕ) (rows : List Share) → Rising rows → from ≤ at → at ≤ till
     → rows_within (Between from till) rows ≡ rows_within (Between from at) rows ++ rows_within (Between at till) rows
 in_parts from at till [] rising low high = refl
@@ -119,7 +120,8 @@ in_parts from at till (row ∷ rows) rising low high =
           ∙ ap (λ rs. rs ++ rows_within (Between at till) (row ∷ rows)) (sym (none_within from at (row ∷ rows) from_at))
     ]
 
--- If only the rows before the end of a time span are kept, then no row in the time span is lost.
+-- If the interval rows (energies of quarter hours) that start at or after the end of a time span
+-- are dropped, the rows in the span remain the same.
 within_before : (from till : ℕ) (rows : List Share) → rows_within (Between from till) (rows_before till rows) ≡ rows_within (Between from till) rows
 within_before from till [] = refl
 within_before from till (row ∷ rows) =
@@ -139,8 +141,8 @@ first_tests from low first start is le =
       | inr e ↦ let over : start < first = omega (arith, is, is_above from start e) in e ∙ sym (le_false first start over)
     ]
 
--- If all rows start at `low` or later, then a time span can begin at `low` instead of an earlier
--- time without losing rows.
+-- If all interval rows (energies of quarter hours) start at `low` or later, then a time span can
+-- begin at `low` instead of an earlier time without losing rows.
 from_first : (from low first till : ℕ) (rows : List Share) → first ≡ max from low → StartFrom low rows
     → rows_within (Between from till) rows ≡ rows_within (Between first till) rows
 from_first from low first till [] is h = refl
@@ -150,8 +152,9 @@ from_first from low first till (row ∷ rows) is h =
     (ap (λ b. b && nat_lt row.start till) (first_tests from low first row.start is h.0))
     (from_first from low first till rows is h.1)
 
--- The rows of a time span consist of the two parts of a streamed response: the rows queried chunk
--- by chunk, and then the last rows, which are queried when the response begins.
+-- The interval rows (energies of quarter hours) of a time span consist of the two parts of a
+-- streamed response: the rows queried chunk by chunk, and then the last rows, which are queried
+-- when the response begins.
 parted : (from low first last end till : ℕ) (rows : List Share) → Rising rows → StartFrom low rows → first ≡ max from low → end ≡ max first (min till last)
     → rows_within (Between from till) rows ≡ rows_within (Between first end) rows ++ rows_within (Between end till) rows
 parted from low first last end till rows rising start is ends =
@@ -165,7 +168,8 @@ parted from low first last end till rows rising start is ends =
     ] in
     from_first from low first till rows is start ∙ two
 
--- Lemmas on a query for a meter's rows in a time span.
+-- Lemmas that a query for the interval rows (energies of quarter hours) of a meter in a time span
+-- returns exactly its rows that start in the span.
 
 asked_of : (facts : List Fact) (from till : ℕ) (opening : Option Opening)
     → rows_in (option_map (rows_within (Between from till)) (option_map (rows_of_opening facts) opening))
@@ -173,13 +177,14 @@ asked_of : (facts : List Fact) (from till : ℕ) (opening : Option Opening)
 asked_of facts from till None = refl
 asked_of facts from till (Some opening) = refl
 
--- A query for a meter's rows in a time span returns all rows of the meter that are in the time
--- span.
+-- A query for a meter's interval rows (energies of quarter hours) in a time span returns all
+-- interval rows of the meter that start in the time span.
 between_rows : (facts : List Fact) (meter : List ℕ) (from till : ℕ)
     → rows_between facts (Some meter) from till ≡ rows_within (Between from till) (rows_of_meter facts meter)
 between_rows facts meter from till = asked_of facts from till (opening_of facts meter)
 
--- If a time span is empty, then a query for its rows returns no rows.
+-- If a time span is empty, then a query for the interval rows (energies of quarter hours) in it
+-- returns no rows.
 pub none_between : (facts : List Fact) (meter : Option (List ℕ)) (from till : ℕ) → till ≤ from → rows_between facts meter from till ≡ []
 none_between facts None from till le = refl
 none_between facts (Some meter) from till le = between_rows facts meter from till ∙ empty_within from till (rows_of_meter facts meter) le
@@ -208,8 +213,9 @@ opening_named facts o meter there = ap (opening_of facts) (own_name facts meter 
 rows_named : (facts : List Fact) (o : Opening) (meter : List ℕ) → opening_of facts meter ≡ Some o → rows_of_meter facts meter ≡ rows_of_opening facts o
 rows_named facts o meter there = ap (rows_of_installed facts) there
 
--- All requested rows of a meter consist of the two parts of a streamed response: the rows queried
--- chunk by chunk, and then the last rows, which are queried when the response begins.
+-- All requested interval rows (energies of quarter hours) of a meter consist of the two parts of a
+-- streamed response: the rows queried chunk by chunk, and then the last rows, which are queried
+-- when the response begins.
 pub all_parts : SharesAddUp → (facts : List Fact) (meter : List ℕ) (o : Opening) (from first last end till : ℕ) → AreLawful facts
     → opening_of facts meter ≡ Some o → first ≡ max from (quarter_of o.at) → end ≡ max first (min till last)
     → rows_between facts (Some meter) from till ≡ rows_between facts (Some meter) first end ++ rows_between facts (Some meter) end till
@@ -260,8 +266,8 @@ a_piece law facts (Some meter) from at till h low high none =
           ∙ ap (λ rs. rows_between facts (Some meter) from at ++ rs) (sym (none_between facts (Some meter) at till (omega (arith, same))))
     ]
 
--- Lemmas: later records that void (withdraw) no present entry of a meter leave the rows before the
--- quarter hour of the meter's last entry unchanged.
+-- Lemmas: records that are added later and void (withdraw) no present entry of a meter leave some
+-- interval rows unchanged, namely those before the quarter hour of the meter's last entry.
 
 lawful_before : (further facts : List Fact) → AreLawful (further ++ facts) → AreLawful facts
 lawful_before [] facts h = h

@@ -87,7 +87,8 @@ below_fit meter [] lines h = h
 below_fit meter (line ∷ more) lines h = below_fit meter more lines h.1
 
 -- If new lines of a meter's journal void (withdraw) no entry before the sequence number `place`,
--- the entries before `place` are unchanged. `place` exists or is the next sequence number.
+-- the entries before `place` are unchanged. The number `place` is that of an entry, or the next
+-- unused one.
 pub entries_stay : (meter : Installed) (place : ℕ) (more lines : Journal) → IsWellInstalled meter → AreFitting meter (more ++ lines)
     → place ≤ entered_count lines + 2 → LinesFrom place more
     → entries_before place (rows_of meter.opening (more ++ lines)) ≡ entries_before place (rows_of meter.opening lines)
@@ -104,7 +105,8 @@ entries_stay meter place (Voided named ∷ more) lines well h le from =
     void_leaves meter.opening place named rows h.0.around from.0 (rows_are_kept meter (more ++ lines) well h.1).places h.0.there
     ∙ entries_stay meter place more lines well h.1 le from.1
 
--- Lemmas: the entries below a sequence number are the first entries of a meter.
+-- Lemmas: the entries of a meter with sequence numbers below a given number are the meter's first
+-- entries.
 
 pub all_below : (place : ℕ) (rows : List EntryRow) → AreNumbered rows → length rows + 1 < place → entries_before place rows ≡ rows
 all_below place [] h lt = refl

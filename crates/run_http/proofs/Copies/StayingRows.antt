@@ -1,6 +1,6 @@
 -- Lemmas: if later records void (withdraw) no entry of a meter below a sequence number, then
 -- earlier quarter hours keep their energy. These are the quarter hours before that of the last
--- valid entry below this number.
+-- valid (not voided) entry below this number.
 use Rattle.std.proofs.Common.{◌≡◌, ℕ, ◌+◌, ◌≤◌, cond, List, [], ◌∷◌, ◌++◌, length, map, sym, ap, subst, ◌∙◌, Some, None, arith}
 use Rattle.std.specs.Prelude.{All}
 use Rattle.std.proofs.lemmas.Bool.{cond-false}
@@ -39,15 +39,17 @@ use Rattle.run_http.specs.Copies.{rows_before, entries_before, next_place, quart
 use Rattle.run_http.proofs.Copies.StayingEntries.{LinesFrom, entries_stay, all_below, first_ones}
 use Rattle.run_http.proofs.Copies.StayingShares.{entries_leave, before_earlier, rows_part, all_before}
 
--- Lemmas on quarter hours whose energy stays the same when lines are added to a meter's journal
--- (its history).
+-- Lemmas: if lines added to a meter's journal (its history) void no entry before the sequence
+-- number `place`, some energies stay the same. They are of the quarter hours before that of the
+-- last valid entry below `place`.
 
 entries_joined : (newer older : List EntryRow) → journal.entries_in (newer ++ older) ≡ journal.entries_in newer ++ journal.entries_in older
 entries_joined newer older =
     let own : EntryRow → Entry = λ row. row.entry in
     ap (map own) (filter-append (λ (row : EntryRow). row.stands) newer older) ∙ map-append own (journal.standing newer) (journal.standing older)
 
--- The start of the quarter hour with the last valid entry before the sequence number `place`.
+-- The start of the quarter hour with the last valid (not voided) entry before the sequence number
+-- `place`.
 abbrev pub quarter_before : Installed → (place : ℕ) → journal.Journal → ℕ
 quarter_before meter place lines =
     quarter_of (last_after meter (journal.entries_in (entries_before place (journal.rows_of meter.opening lines)))).at
@@ -137,9 +139,9 @@ still_opened (fact.Poll p ∷ further) facts meter o h there = still_opened furt
 still_opened (fact.Outcome e ∷ further) facts meter o h there = still_opened further facts meter o h.1 there
 still_opened (fact.Reply r ∷ further) facts meter o h there = still_opened further facts meter o h.1 there
 
--- Suppose that all voids (withdrawals) in a meter's journal name entries from `place` on. Then this
--- is still true after a record adds a line, if a line for this meter voids only such entries. Lines
--- for other meters are not in the journal.
+-- Suppose that all voids (withdrawals) in a meter's journal name entries with sequence numbers from
+-- `place` on. One more record keeps this true, unless it belongs to this meter and voids an entry
+-- before `place`.
 one_more : (place : ℕ) (line : journal.Line) (lines : journal.Journal) (meter m : List ℕ) → LinesFrom place lines
     → (meter ≡ m → LinesFrom place (line ∷ lines)) → LinesFrom place (cons_option (cond (same meter m) (Some line) None) lines)
 one_more place line lines meter m rest here =
@@ -167,9 +169,9 @@ lines_from (fact.Poll p ∷ further) meter place h = lines_from further meter pl
 lines_from (fact.Outcome e ∷ further) meter place h = lines_from further meter place (All-tail (VoidsFrom meter place) (fact.Outcome e) further h)
 lines_from (fact.Reply r ∷ further) meter place h = lines_from further meter place (All-tail (VoidsFrom meter place) (fact.Reply r) further h)
 
--- Suppose that later records void (withdraw) no entry of the meter with a sequence number below
--- `place`. Then the quarter hours before that of the last valid entry below `place` keep their
--- energy (`StaysBefore`).
+-- Suppose that the records `further`, added after the records `facts`, void (withdraw) no entry of
+-- the meter with a sequence number below `place`. Then the quarter hours before that of the last
+-- valid (not voided) entry below `place` keep their energy (`StaysBefore`).
 stays_before : SharesAddUp → (further facts : List Fact) (o : Opening) (place : ℕ) → AreLawful (further ++ facts) → opening_of facts o.meter ≡ Some o
     → place ≤ next_place facts o → All (VoidsFrom o.meter place) further → StaysBefore further facts o.meter o place
 stays_before law further facts o place h there le void =

@@ -1,4 +1,5 @@
--- Lemmas: entries added to a meter leave the energy of earlier quarter hours unchanged.
+-- Lemmas: entries that are added after a meter's last entry leave the energy of all quarter hours
+-- before that of the last entry unchanged.
 use Rattle.std.proofs.Common.{◌≡◌, ℕ, ◌+◌, ◌<◌, ◌≤◌, ◌==◌, nat_lt, nat_le, Bool, true, false, cond, ◌&&◌, List, [], ◌∷◌, ◌++◌, refl, sym, ap, ◌∙◌, inl, inr, arith}
 use Rattle.std.specs.Prelude.{All}
 use Rattle.std.proofs.lemmas.Bool.{cases_Bool, cond-true, cond-false, eqb-true}
@@ -20,7 +21,7 @@ use Rattle.office_books.specs.Spans.{rows_within}
 use Rattle.office_books.specs.declared.spans.Span.TheVariants.{Between}
 use Rattle.run_http.specs.Copies.{rows_before, quarter_of}
 
--- States that all interval rows start at the time `moment` or later.
+-- States that all interval rows (energies of quarter hours) start at the time `moment` or later.
 abbrev pub StartFrom : (moment : ℕ) → List Share → Type 0
 StartFrom moment [] = Unit {0}
 StartFrom moment (share ∷ shares) = (moment ≤ share.start) × StartFrom moment shares
@@ -41,8 +42,8 @@ joined_after moment row share shares true e h =
 joined_after moment row share shares false e h =
     ap (λ rs. cond (nat_lt row.start moment) (row ∷ rs) rs) (none_before moment (share ∷ shares) h)
 
--- If added interval rows all start at the time `moment` or later, then the rows before `moment` are
--- unchanged.
+-- If added interval rows (energies of quarter hours) all start at the time `moment` or later, then
+-- the existing rows before `moment` are unchanged.
 shares_leave : (moment : ℕ) (rows shares : List Share) → StartFrom moment shares → rows_before moment (with_shares rows shares) ≡ rows_before moment rows
 shares_leave moment [] shares h = none_before moment shares h
 shares_leave moment (row ∷ []) [] h = refl
@@ -67,8 +68,8 @@ pub last_later : (meter : Installed) (es base : List Entry) → AllFollow meter.
 last_later meter [] base h = omega arith
 last_later meter (e ∷ es) base h = omega (arith, h.0.later, last_moment meter e (es ++ base), last_later meter es base h.1)
 
--- If entries are added after a meter's last entry, then the rows before the quarter hour of that
--- last entry are unchanged.
+-- If entries are added after a meter's last entry, then the interval rows before the quarter hour
+-- of that last entry are unchanged.
 pub entries_leave : SharesAddUp → (meter : Installed) (es base : List Entry) → AllFollow meter.range meter.opening (es ++ base)
     → let moment = quarter_of (last_after meter base).at in
     rows_before moment (rows_of_steps (steps_after meter (es ++ base))) ≡ rows_before moment (rows_of_steps (steps_after meter base))
@@ -89,20 +90,22 @@ before_row moment from row rows le =
           ap (rows_before from) (cond-false _ _ _ e) ∙ sym (cond-false _ _ _ (not_before from row.start (omega (arith, ge, le))))
     ]
 
--- If only the rows before the time `moment` are kept, then no row before an earlier time is lost.
+-- If only the interval rows (energies of quarter hours) before the time `moment` are kept, then no
+-- row before an earlier time is lost.
 pub before_earlier : (moment from : ℕ) (rows : List Share) → from ≤ moment → rows_before from (rows_before moment rows) ≡ rows_before from rows
 before_earlier moment from [] le = refl
 before_earlier moment from (row ∷ rows) le =
     before_row moment from row (rows_before moment rows) le
     ∙ ap (λ rs. cond (nat_lt row.start from) (row ∷ rs) rs) (before_earlier moment from rows le)
 
--- Lemmas: ordered rows are split at a time into earlier and later rows.
+-- Lemmas: interval rows (energies of quarter hours) in order of time are split at a given time into
+-- earlier and later rows.
 
 pub none_start : (moment start : ℕ) (rows : List Share) → moment ≤ start → Above start rows → StartFrom moment rows
 none_start moment start [] le h = tt
 none_start moment start (row ∷ rows) le h = (omega (arith, le, h.0), none_start moment start rows le h.1)
 
--- States that all interval rows start before the time `till`.
+-- States that all interval rows (energies of quarter hours) start before the time `till`.
 abbrev pub StartBefore : (till : ℕ) → List Share → Type 0
 StartBefore till [] = Unit {0}
 StartBefore till (row ∷ rows) = (row.start < till) × StartBefore till rows

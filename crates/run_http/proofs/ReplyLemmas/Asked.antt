@@ -1,4 +1,5 @@
--- Lemmas on HTTP requests for the energy of all quarter hours of a meter.
+-- Lemmas on when received bytes are a complete HTTP request for the energy of all quarter hours of
+-- a meter.
 use Rattle.std.proofs.Common.{◌≡◌, ℕ, List, Option, Ok, refl, sym, subst, arith}
 use Rattle.office_http.specs.Messages.Offices.{Office}
 use Rattle.office_http.specs.Messages.Replies.{lines_reply, question_reply, reply_bytes}

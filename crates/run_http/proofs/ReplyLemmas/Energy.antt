@@ -1,4 +1,5 @@
--- Lemmas on the days in an energy report, and on the text of the report.
+-- Lemmas: the energy report has all requested days in order, or the function that writes it returns
+-- an error.
 use Rattle.std.proofs.Common.{◌≡◌, ℕ, Bool, Option, Some, List, [], ◌∷◌, ◌++◌, Result, Ok, Err, IsErr, sym, subst, ap, ◌∙◌, append-nil, append_assoc}
 use Rattle.std.specs.Prelude.{OnOk}
 use Rattle.std.specs.Io.KnownBytes.{Appends}
@@ -19,7 +20,8 @@ use Rattle.office_events.specs.declared.refusals.Refusal.{Refusal}
 use Rattle.office_books.specs.History.{History, facts_of}
 use Rattle.run_http.specs.RegisterReplies.{AsksEnergy, IsReport, PutsLast, RepliesEnergy, ReportsDaysReport, with_energy_reply}
 
--- If a report receives some days and then more days, then it has received all these days in order.
+-- If the energy of some days and then of more days is added to a report, then the report has all
+-- these days in order.
 taken_all : {W : Type 0} (contents : W → Option (List ℕ)) (days more : List DayTotal) (from at to : ReportRows W)
     → HasTaken contents days from at → TakesAll (TakesDay contents) at more to → HasTaken contents (days ++ more) from to
 taken_all {W} contents days [] from at to has took =
@@ -31,8 +33,8 @@ taken_all contents days (day ∷ more) from at to has took =
     subst P (append_assoc days (day ∷ []) more)
     (taken_all contents (days ++ day ∷ []) more from took.0 to (took.1.taken from days has) took.2)
 
--- If the report receives all days, and the remaining text of the report is written, then the output
--- has the complete energy report.
+-- If the energy of all days is added to a report, and the remaining text of the report is written,
+-- then the output has the complete energy report.
 written : {W : Type 0} (E : Type 0) (contents : W → Option (List ℕ)) (zone : Zone) (past : History) (register : Option (List ℕ)) (form : ReportForm)
     (before after : Failures) (from to left : ReportRows W) (output : W) (answer reported : Result (Unit {0}) Refusal)
     → IsFresh contents form output from
@@ -72,9 +74,10 @@ pub taken_by : {W : Type 0} (contents : W → Option (List ℕ)) (days : List Da
 taken_by {W} contents [] from to took = ap (λ (rows : ReportRows W). rows.output.ghost_name) took
 taken_by contents (day ∷ more) from to took = taken_by contents more took.0 to took.2 ∙ took.1.output
 
--- Lemmas on the response with an energy report.
+-- Lemmas: unless memory runs out, the response to a query for energy has the complete report, or
+-- reports the refusal of the query.
 
--- If the output was empty before the report was written, then it now has only the report.
+-- If the output was empty before the report was written, then the output now has only the report.
 alone : (zone : Zone) (past : History) (register : Option (List ℕ)) (form : ReportForm) (had holds : List ℕ) (answer : Result (Unit {0}) Refusal)
     → had ≡ [] → OnOk answer (IsReport zone past register form (Appends (Some had) (Some holds)))
     → OnOk answer (IsReport zone past register form (λ text. holds ≡ text))
@@ -102,8 +105,8 @@ replied ledger old new register form had holds from to reported (Err why) asked 
   puts = tt;
 }
 
--- If memory for the energy report runs out, then the function `reply_energy` returns an error, and
--- its postcondition `RepliesEnergy` holds.
+-- If memory for the energy report runs out, then the function `reply_energy` returns an error,
+-- which its contract `RepliesEnergy` allows.
 pub lacked : {B E F : Type 0} (ledger : B → Ledger) (old new : Office B) (register : Option (List ℕ)) (form : ReportForm) (had holds : Option (List ℕ))
     (from to : List ℕ) (asked : Result (Result (Unit {0}) Refusal) F) (result : Result (Unit {0}) E)
     → AsksEnergy ledger old new register form had holds asked → IsErr result → RepliesEnergy ledger old new register form from to result

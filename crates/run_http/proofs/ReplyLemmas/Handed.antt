@@ -1,5 +1,6 @@
--- Lemmas on the function `handle` of the crate `office_http`, for a request that it reads from
--- memory and a response that it writes to memory.
+-- Lemmas about the function `handle` of the crate `office_http`, which reads a request from memory
+-- and writes the response to memory. The response is the one that the contract `Serves` requires
+-- for these bytes.
 use Rattle.std.proofs.Common.{◌≡◌, ℕ, List, [], Option, Some, Result, subst, ap, sym, ◌∙◌}
 use Rattle.mb_wire.specs.declared.link.LastTake.{LastTake}
 use Rattle.office_books.specs.Ledgers.{Ledger}

@@ -1,4 +1,4 @@
--- Lemmas on responses with quarter hours that are streamed in chunks.
+-- Lemmas on streamed responses, which send the energy of a meter's quarter hours in chunks.
 use Rattle.std.proofs.Common.{◌≡◌, inl, inr, ℕ, ◌+◌, ◌<◌, ◌≤◌, max, min, List, [], ◌∷◌, ◌++◌, length, Option, Some, Result, Ok, Err, true, refl, sym, ap, subst, ◌∙◌, append_assoc, length-append, zero-add, arith}
 use Rattle.std.specs.Prelude.{IsErr, OnOk, flat_map}
 use Rattle.std.specs.Option.{option_map, option_and_then}
@@ -41,15 +41,16 @@ use Rattle.run_http.proofs.Copies.Parts.{a_piece, all_parts, none_between, rows_
 use Rattle.office_core.proofs.SeveralAsked.{asked, asked_after, now_as, refused_as}
 use Rattle.run_http.proofs.ReplyLemmas.Voids.{mapped}
 
--- Lemmas on the text lines of interval rows in a response.
+-- Lemmas: the text lines of a response's interval rows (energies of quarter hours) can be written
+-- chunk by chunk.
 
--- The lines of the rows, and the last line with the number of rows. This number also counts the
--- `reported` rows that were written earlier.
+-- The text lines of interval rows (energies of quarter hours), and the last line with the number of
+-- rows. This number also counts the `reported` rows that were written earlier.
 abbrev text_of : (reported : ℕ) → List Share → List ℕ
 text_of reported rows = flat_map share_line rows ++ end_line (reported + length rows)
 
--- The text that remains before a chunk of a streamed response consists of the chunk's lines and the
--- text that remains after the chunk.
+-- The text that a streamed response still has to send before a chunk consists of the lines of the
+-- chunk, and then the text still to be sent after it.
 pub reported_on : (from to : List ℕ) (piece others : List Share) (reported later : ℕ) → to ≡ from ++ flat_map share_line piece → later ≡ reported + length piece
     → to ++ text_of later others ≡ from ++ text_of reported (piece ++ others)
 reported_on from to piece others reported later put counted =
@@ -60,13 +61,14 @@ reported_on from to piece others reported later put counted =
     ∙ ap (λ t. from ++ (t ++ end_line (later + length others))) (sym (flat_map-append share_line piece others))
     ∙ ap (λ n. from ++ (flat_map share_line (piece ++ others) ++ end_line n)) count
 
--- Lemmas on the start of a streamed response: its first bytes, and the rows that are still to be
--- sent.
+-- Lemmas: when a streamed response starts, its first bytes and the rows still to be sent form the
+-- complete response.
 
 end_settled : (first till last end : ℕ) → end ≡ max first (min till last) → first < end → end ≤ last
 end_settled first till last end is lt = omega (arith, is, lt)
 
--- The result of a query for interval rows, with the rows left out.
+-- The result of a query for interval rows (energies of quarter hours), without the rows: success,
+-- or the reason why the program refused the query.
 abbrev without_rows : Result (Vec Share Global) Refusal → Result (Unit {0}) Refusal
 without_rows (Ok rows) = Ok tt
 without_rows (Err why) = Err why
@@ -114,8 +116,8 @@ module _ {B : Type 0} (ledger : B → Ledger) (old new : Office B) where
             subst (λ (i : Option Installation). left.till ≤ last_quarter i) (sym known) (omega (arith, upto, high));
       }
 
-  -- If the program refuses a query for interval rows of an installed meter, then the store or
-  -- memory failed.
+  -- If the program refuses a query for interval rows (energies of quarter hours) of an installed
+  -- meter, then the store or memory failed.
   failed : (facts : List Fact) (it : Installation) (from till : ℕ) (before after : Failures) (why : Refusal) → meter_of facts it.opening.meter ≡ Some it
       → IsListed (intervals_within facts (Some it.opening.meter) (Between from till)) before after (Err why) → IsOutside ⊥ before after why
   failed facts it from till before after why there listed =
@@ -123,7 +125,8 @@ module _ {B : Type 0} (ledger : B → Ledger) (old new : Office B) where
       subst (λ (o : Option Opening). IsListed (option_map (rows_within (Between from till)) (option_map (rows_of_opening facts) o)) before after (Err why))
       meter_is.1 listed
 
-  -- The rows that a query returns are the rows that the store's records define.
+  -- The interval rows (energies of quarter hours) that a query returns are the rows that the
+  -- store's records define.
   listed_as : {F : Type 0} (says : List Fact → Option (List Share)) (reported : Result (Vec Share Global) Refusal) → AsksRows ledger old new says {E = F} (Ok reported)
       → After ledger old new (λ past. IsListed (says (facts_of past)) (failures_of ledger old) (failures_of ledger new) reported)
   listed_as says reported asked = λ past stands clean.
@@ -169,15 +172,16 @@ module _ {B : Type 0} (ledger : B → Ledger) (old new : Office B) where
     );
   }
 
-  -- If memory for the interval rows runs out, then the function `begin_rows` returns an error, and
-  -- its postcondition `BeginsReply` holds.
+  -- If memory for the interval rows (energies of quarter hours) runs out, then the function
+  -- `begin_rows` returns an error, which its contract `BeginsReply` allows.
   pub begins_lacked : {E F : Type 0} (it : Installation) (from till end : ℕ) (fault : F) (result : Result (Result RemainingRows Refusal) E)
       → AsksRows ledger old new (λ facts. intervals_within facts (Some it.opening.meter) (Between end till)) (Err fault) → IsErr result
       → BeginsReply ledger old new it from till intervals_text [] result
   begins_lacked it from till end fault (Ok reported) asked is = cc is
   begins_lacked it from till end fault (Err why) asked is = record { answer = without_rows asked.answer; asks = asks_without asked.answer asked.asks; begins = tt }
 
-  -- Lemmas on the chunks of a streamed response.
+  -- Lemmas: a chunk of a streamed response does not change the written text and the text still to
+  -- be sent, taken together.
 
   pub reports_on : {E F : Type 0} (left later : RemainingRows) (seconds till : ℕ) (from to : List ℕ) (rows : Vec Share Global) (shown : List Share) → SharesAddUp
       → FactsAreLawful → (left.from ≤ left.till → left.from ≤ till) → till ≤ left.till → (left.till ≤ left.from → till ≡ left.till)
@@ -220,14 +224,15 @@ module _ {B : Type 0} (ledger : B → Ledger) (old new : Office B) where
       → ReportsOn ledger old new left later seconds from to {E = E} (Ok (Err why))
   reports_refused left later seconds till from to why asked = record { answer = asked.answer; asks = asked.asks; reports = sym asked.gives }
 
--- Lemmas on the size of a streamed response.
+-- Lemmas: the size that is computed for a streamed response's body is the number of bytes of this
+-- body.
 
 failed_some : (before after : Failures) (why : Refusal) → IsRowFound {T = Unit {0}} (Some tt) before after (Err why) → IsOutside ⊥ before after why
 failed_some before after why (inl is) = cc is.0
 failed_some before after why (inr fault) = fault
 
--- If interval rows are measured one by one, then the result has the number of all rows and the size
--- of all their lines.
+-- If interval rows (energies of quarter hours) are measured one by one, then the result has the
+-- number of all rows and the size of all their lines.
 all_sized : (old new : RowSizes) (rows : List Share) → TakesAll SizesRow old rows new → new.is_whole ≡ true
     → (old.is_whole ≡ true) × (new.sizes.bytes ≡ old.sizes.bytes + length (flat_map share_line rows)) × (new.sizes.count ≡ old.sizes.count + length rows)
 all_sized old new [] is whole = (
@@ -242,7 +247,8 @@ all_sized old new (row ∷ rows) (next, first, rest) whole =
     length-append (share_line row) (flat_map share_line rows) in
     (one.0, omega (arith, later.1, one.1, line), omega (arith, later.2, one.2))
 
--- The computed size of a response's body equals the size of the remaining text.
+-- The computed size of a streamed response's body equals the size of the text that is still to be
+-- sent.
 body_is : (facts : List Fact) (left : RemainingRows) (sizes : Sizes) → AreSizes sizes (rows_between facts left.meter left.from left.till)
     → body_size left sizes ≡ length (text_left facts left)
 body_is facts left sizes are =
@@ -305,14 +311,16 @@ module _ {B : Type 0} (ledger : B → Ledger) (old mid new : Office B) where
     sizes = (refl, λ past stands clean. (reports past stands clean).answer);
   }
 
-  -- If memory for the line of a row runs out, then the function `ask_sizes` returns an error, and
-  -- its postcondition `SizesRows` holds.
+  -- Lemma on the function `ask_sizes`, which computes the number and the size of the remaining rows
+  -- of a streamed response. If memory for the line of a row runs out, the function returns an
+  -- error, which its contract `SizesRows` allows.
   pub sizes_none : {E : Type 0} (left : RemainingRows) (answer : Result (Unit {0}) Refusal) (result : Result (Result Sizes Refusal) E)
       → OnlyAsks ledger mid new answer → IsErr result → SizesRows ledger mid new left result
   sizes_none left answer (Ok reported) asks is = cc is
   sizes_none left answer (Err why) asks is = record { answer = answer; asks = asks; sizes = tt }
 
-  -- Lemmas on a response whose head contains the size of its body.
+  -- Lemmas: a streamed response starts with a head that contains the size of the body, unless the
+  -- store or memory fails.
 
   first_asks : {E : Type 0} (it : Installation) (from till : ℕ) (reply : List Share → List ℕ) (put : List ℕ) (left : RemainingRows)
       → BeginsReply ledger old mid it from till reply put {E = E} (Ok (Ok left)) → OnlyAsks {T = Unit {0}} ledger old mid (Ok tt)
@@ -371,8 +379,8 @@ module _ {B : Type 0} (ledger : B → Ledger) (old mid new : Office B) where
         );
       }
 
-  -- If memory runs out while interval rows are measured, then the function `begin_intervals`
-  -- returns an error, and its postcondition `BeginsReply` holds.
+  -- If memory runs out while interval rows (energies of quarter hours) are measured, then the
+  -- function `begin_intervals` returns an error, which its contract `BeginsReply` allows.
   pub sizes_lacked : {E F : Type 0} (it : Installation) (from till : ℕ) (text put : List ℕ) (left : RemainingRows) (answer : Result (Unit {0}) Refusal)
       (result : Result (Result RemainingRows Refusal) F) → BeginsReply ledger old mid it from till intervals_text [] {E = E} (Ok (Ok left))
       → OnlyAsks ledger mid new answer → IsErr result → BeginsReply ledger old new it from till (with_rows text) put result
@@ -380,8 +388,8 @@ module _ {B : Type 0} (ledger : B → Ledger) (old mid new : Office B) where
   sizes_lacked it from till text put left answer (Err why) begins asks is =
       record { answer = answer; asks = then_asks it from till intervals_text [] left answer begins asks; begins = tt }
 
--- If the program refuses a query while a streamed response begins, then `BeginsReply` holds for any
--- response and any written bytes.
+-- If the program refuses a query while a streamed response begins, then the starting function's
+-- contract `BeginsReply` holds for any response and any written bytes.
 module _ {B : Type 0} (ledger : B → Ledger) (old new : Office B) where
   pub refused_so : {E F : Type 0} (it : Installation) (from till : ℕ) (reply other : List Share → List ℕ) (put text : List ℕ) (why : Refusal)
       → BeginsReply ledger old new it from till reply put {E = E} (Ok (Err why)) → BeginsReply ledger old new it from till other text {E = F} (Ok (Err why))
@@ -394,7 +402,7 @@ module _ {B : Type 0} (ledger : B → Ledger) (old new : Office B) where
   lacked_so it from till reply other put text fault (Err why) begins is = record { answer = begins.answer; asks = begins.asks; begins = tt }
 
   -- If the head without Content-Length is written, then the streamed response with all quarter
-  -- hours of the meter has started as `BeginsReply` states.
+  -- hours of the meter has started as the contract `BeginsReply` requires.
   pub with_text_head : {E F : Type 0} (it : Installation) (from till : ℕ) (text put : List ℕ) (left : RemainingRows)
       → BeginsReply ledger old new it from till intervals_text [] {E = E} (Ok (Ok left)) → put ≡ text ++ text_head
       → BeginsReply ledger old new it from till (with_all_rows text) put {E = F} (Ok (Ok left))
@@ -416,8 +424,8 @@ module _ {B : Type 0} (ledger : B → Ledger) (old new : Office B) where
     );
   }
 
--- If the copied last rows and the number of all rows are written, then the response is complete
--- (`ReportsRest`).
+-- Suppose that the last rows (which were copied when the streamed response began) and the number of
+-- all rows are written. Then the response is complete, as the contract `ReportsRest` requires.
 rest_reported : (left : RemainingRows) (from between to : List ℕ) (count : ℕ) → between ≡ from ++ flat_map share_line left.last.items → count ≡ left.reported + length left.last.items
     → to ≡ between ++ end_line count → ReportsRest left from to
 rest_reported left from between to count lines counted put = λ facts le.
@@ -431,7 +439,8 @@ pub rest_on : {E : Type 0} (left : RemainingRows) (from between to : List ℕ) (
 rest_on left from between to count (Ok x) lines counted put = rest_reported left from between to count lines counted put
 rest_on left from between to count (Err why) lines counted put = tt
 
--- Lemmas on streamed responses with records that are added between their chunks.
+-- Lemmas: records that are added between the chunks of a streamed response do not change it, if
+-- they void (withdraw) no entry that the meter had at the beginning.
 
 pub text_stays : SharesAddUp → TextStays
 text_stays law further facts meter o left h there named settled void =
@@ -457,8 +466,9 @@ settled_on facts left later seconds moves settled = λ lt.
     ] in
     omega (arith, upto, same, moves.till)
 
--- States the effect of some chunks of a streamed response. The written text and the remaining text
--- together are the same as before. New entries can't change rows that are still to be queried.
+-- States the effect of some chunks of a streamed response. The written text and the text still to
+-- be sent are together the same as before these chunks. New entries can't change rows that are
+-- still to be queried.
 record Goes (facts : List Fact) (meter : List ℕ) (left later : RemainingRows) (before after : List ℕ) : Type 0 where
   named : later.meter ≡ Some meter
   settled : IsSettled facts later

@@ -1,4 +1,5 @@
--- Lemmas on rows that a query returns one by one, and on the program's answer to the query.
+-- Lemmas: if memory suffices, all interval rows (energies of quarter hours) that a query returns
+-- one by one are collected in order, and the program's answer is returned with them.
 use Rattle.std.proofs.Common.{◌≡◌, ◌⊎◌, inl, inr, true, List, [], ◌∷◌, ◌++◌, Option, Some, None, Result, Ok, Err, IsErr, append-nil, append_assoc, refl, sym, ap, ◌∙◌}
 use Rattle.std.specs.declared.alloc.Global.{Global}
 use Rattle.std.specs.declared.vec.Vec.{Vec}
@@ -18,8 +19,8 @@ use Rattle.office_core.specs.declared.office.Office.{Office}
 use Rattle.run_http.specs.MeterReplies.{AsksRows, KeepsRow}
 use Rattle.run_http.specs.declared.kept_rows.KeptRows.{KeptRows}
 
--- If memory sufficed, then all rows that a query passed on are appended to the rows collected
--- earlier.
+-- If memory sufficed, then all interval rows (energies of quarter hours) that a query passed on are
+-- appended to the rows collected earlier.
 all_kept : (old new : KeptRows) (rows : List Share) → TakesAll KeepsRow old rows new → new.is_whole ≡ true
     → (old.is_whole ≡ true) × (new.rows.items ≡ old.rows.items ++ rows)
 all_kept old new [] is whole = (
@@ -31,7 +32,7 @@ all_kept old new (row ∷ rows) (next, first, rest) whole =
     let one = first later.0 in
     (one.0, later.1 ∙ ap (λ t. t ++ rows) one.1 ∙ append_assoc old.rows.items (row ∷ []) rows)
 
--- The result of a query, with the rows collected from it: the rows, or the reason why the program
+-- The result of a query whose rows were collected: these rows, or the reason why the program
 -- refused the query.
 abbrev pub with_rows : Vec Share Global → Result (Unit {0}) Refusal → Result (Vec Share Global) Refusal
 with_rows rows (Ok x) = Ok rows
@@ -87,8 +88,8 @@ asks_with ledger old new rows (Err why) asks = record {
   zone = asks.zone;
 }
 
--- If memory sufficed for all rows, then the query's result has the rows of the store, or the reason
--- why the program refused the query.
+-- If memory sufficed for all rows, then the query's result has all rows that the query found in the
+-- store, or the reason why the program refused the query.
 pub asked : {B E : Type 0} (ledger : B → Ledger) (old new : Office B) (says : List Fact → Option (List Share)) (from to : KeptRows) (kept : Vec Share Global)
     (answer : Result (Unit {0}) Refusal) → ReportsRows KeepsRow ledger old new from to answer says → OnlyAsks ledger old new answer
     → from.rows.items ≡ [] → to.is_whole ≡ true → kept ≡ to.rows → AsksRows ledger old new says {E = E} (Ok (with_rows kept answer))
@@ -100,8 +101,8 @@ asked ledger old new says from to kept answer reports asks none whole is = recor
       listed (says (facts_of past)) (failures_of ledger old) (failures_of ledger new) from to kept answer (reports past stands clean) none whole is;
 }
 
--- If memory for a row runs out, then the function `ask_intervals` returns an error, and its
--- postcondition `AsksRows` holds.
+-- Lemma on the function `ask_intervals`, which queries the quarter hours of a meter. If memory for
+-- a row runs out, the function returns an error, which its contract `AsksRows` allows.
 pub lacked : {B E : Type 0} (ledger : B → Ledger) (old new : Office B) (says : List Fact → Option (List Share)) (kept : Vec Share Global)
     (answer : Result (Unit {0}) Refusal) (result : Result (Result (Vec Share Global) Refusal) E) → OnlyAsks ledger old new answer → IsErr result
     → AsksRows ledger old new says result

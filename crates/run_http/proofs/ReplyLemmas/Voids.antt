@@ -1,4 +1,5 @@
--- Lemmas: the program collects the voided (withdrawn) entries of a meter chunk by chunk.
+-- Lemmas that collecting the voided (withdrawn) entries of each chunk of a meter's entries collects
+-- those of all the entries.
 use Rattle.std.proofs.Common.{◌≡◌, ◌⊎◌, ℕ, ◌+◌, ◌<◌, true, Option, Some, None, List, ◌∷◌, [], ◌++◌, take, drop, length, get_or, refl, sym, ap, subst, ◌∙◌, append_assoc}
 use Rattle.std.specs.Prelude.{Ok, Err}
 use Rattle.std.specs.Option.{option_map, option_and_then}
@@ -28,10 +29,12 @@ use Rattle.run_http.specs.Voids.{is_voided, voided_in, voids_of}
 use Rattle.office_core.proofs.SeveralAsked.{answered_as, asked, asked_after, goes_on, kept_on, without_memory}
 use Rattle.office_books.proofs.Pieces.{last_piece, one_piece_more, piece_at}
 
--- Lemmas on the voided (cancelled) entries among the entries of one chunk.
+-- Lemmas about a loop over one chunk of a meter's entries, which collects exactly the voided
+-- (cancelled) entries of the chunk.
 
 -- Suppose that a list has the voided (withdrawn) entries among a chunk's first `i` entries. If the
--- next entry is appended exactly if it is voided, then the list is correct for `i + 1` entries.
+-- next entry is appended exactly if it is voided, then the list has those among the first `i + 1`
+-- entries.
 pub one_more : (piece : List MeterEntry) (i : ℕ) (any : MeterEntry) (before mid after : List MeterEntry) → i < length piece
     → mid ≡ before ++ voided_in (take i piece) → after ≡ mid ++ voided_in (get_or piece i any ∷ []) → after ≡ before ++ voided_in (take (i + 1) piece)
 one_more piece i any before mid after lt kept more =
@@ -40,7 +43,8 @@ one_more piece i any before mid after lt kept more =
     more ∙ ap (λ front. front ++ voided_in (entry ∷ [])) kept ∙ append_assoc before (voided_in (take i piece)) (voided_in (entry ∷ []))
     ∙ ap (λ back. before ++ back) (sym (filter-append is_voided (take i piece) (entry ∷ [])) ∙ ap voided_in (sym next))
 
--- Lemmas on the voided (cancelled) entries of several chunks, one chunk after another.
+-- Lemmas: the voided (cancelled) entries of two consecutive chunks of a meter's entries are those
+-- of the first chunk, followed by those of the second chunk.
 
 some_same : {X : Type 0} (x y : X) → Some x ≡ Some y → x ≡ y
 some_same x y is = cc is
@@ -70,8 +74,8 @@ module _ {B : Type 0} (ledger : B → Ledger) where
   abbrev all_voided : List Fact → Opening → List MeterEntry
   all_voided facts opening = voided_in (entries_at facts (Some opening))
 
-  -- The voided entries of two consecutive chunks are the voided entries of the first chunk,
-  -- followed by the voided entries of the second chunk.
+  -- The voided entries of two consecutive chunks of a meter's entries are the voided entries of the
+  -- first chunk, followed by those of the second chunk.
   of_both : (es piece : List MeterEntry) (n : ℕ) (kept more : List MeterEntry) → more ≡ kept ++ voided_in piece → kept ≡ voided_in (take n es)
       → more ≡ voided_in (take n es ++ piece)
   of_both es piece n kept more took reported =
@@ -107,7 +111,8 @@ module _ {B : Type 0} (ledger : B → Ledger) where
       ∙ ap voided_in (ap (λ (piece : List MeterEntry). take n es ++ piece) items ∙ last_piece n 65536 es last) in
       (ap (option_map (all_voided facts)) found.1 ∙ ap Some (sym all), known.1 ∙ keeps.failures)
 
-  -- Lemmas on the complete list of a meter's voided (cancelled) entries.
+  -- Lemmas: the collected list has all voided (cancelled) entries of a meter, unless the query was
+  -- refused or memory ran out.
 
   pub reported : {E : Type 0} (a b d : Office B) (meter : Option (List ℕ)) (n : ℕ) (kept : List MeterEntry) (v w : Vec MeterEntry Global)
       → Keeps ledger a b → AreKept a b meter n kept → OnlyAsks ledger b d (Ok v)
@@ -134,8 +139,9 @@ module _ {B : Type 0} (ledger : B → Ledger) where
         (failures_of ledger d) why keeps.failures (lists past (keeps.stands past stands) clean);
   }
 
-  -- If memory for the entries runs out, then the function `ask_voids` returns an error, and its
-  -- postcondition `AsksRows` holds.
+  -- Lemma on the function `ask_voids`, which collects the voided (withdrawn) entries of a meter. If
+  -- memory for the entries runs out, the function returns an error, which its contract `AsksRows`
+  -- allows.
   pub no_room : {E : Type 0} (a b : Office B) (meter : Option (List ℕ)) (fault : E) → (is_stopped a ≡ true → ⊥) → Keeps ledger a b
       → AsksRows ledger a b (λ facts. voids_of facts meter) (Err fault)
   no_room a b meter fault goes keeps = record {

@@ -21,7 +21,7 @@ label_byte byte =
 abbrev pub label_text : List ℕ → List ℕ
 label_text value = flat_map label_byte value
 
--- The text, followed by the text `before` and the value of a Prometheus label.
+-- A text with the text `before` and the value of a Prometheus label appended.
 abbrev pub with_label : List ℕ → (before value : List ℕ) → List ℕ
 with_label text before value = text ++ before ++ label_text value
 
@@ -39,20 +39,20 @@ with_energy text row meter =
     with_labels text (codes "\nsunreg_energy_watthours_total{meter=\"") row meter
     ++ codes "\"} " ++ magnitude_text meter.total (negsuc 2)
 
--- The time of the last valid entry of a meter, as a metric.
+-- The time of the last valid (not voided) entry of a meter, as a metric.
 abbrev pub with_entry : List ℕ → SiteRow → Installation → List ℕ
 with_entry text row meter =
     with_labels text (codes "\nsunreg_last_entry_timestamp_seconds{meter=\"") row meter
     ++ codes "\"} " ++ decimal meter.last.at
 
--- The energy metric of the latest meter of an accounting register, if the meter is open. A register
--- without an open meter has no line.
+-- The energy metric of the latest meter of an accounting register (a named energy counter), if the
+-- meter is open. A register without an open meter has no line.
 abbrev pub with_energy_of : List ℕ → SiteRow → Option Installation → List ℕ
 with_energy_of text row None = text
 with_energy_of text row (Some meter) = if meter.ended then text else with_energy text row meter
 
--- The metric with the time of the last entry of an accounting register's latest meter, if the meter
--- is open. A register without an open meter has no line.
+-- The metric with the time of the last entry of an accounting register's
+-- latest meter, if the meter is open. A register without an open meter has no line.
 abbrev pub with_entry_of : List ℕ → SiteRow → Option Installation → List ℕ
 with_entry_of text row None = text
 with_entry_of text row (Some meter) = if meter.ended then text else with_entry text row meter

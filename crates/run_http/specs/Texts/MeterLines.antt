@@ -43,7 +43,7 @@ later_line row sf =
     decimal row.place ++ kind_word row.kind ++ numbers_text row.entry ++ codes " "
     ++ signed_decimal sf ++ standing_word row.stands
 
--- The line of a meter's opening entry, which has the sequence number 1 and is always valid.
+-- The line of a meter's opening entry, which has the sequence number 1 and is never voided.
 abbrev pub opening_line : Last → List ℕ
 opening_line last =
     codes "1 opening " ++ decimal last.at ++ codes " " ++ decimal last.raw ++ codes " 0 0 "

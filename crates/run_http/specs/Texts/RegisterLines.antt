@@ -18,13 +18,14 @@ state_word true = codes " ended\n"
 state_word false = codes " open\n"
 
 -- The line of a meter: NAME OPENED AT RAW SF TOTAL, and whether the meter was closed. OPENED is the
--- time of its opening entry. AT, RAW and SF are the time, counter and scale of its last valid
--- entry. TOTAL is its energy in mWh.
+-- time of its opening entry. AT, RAW and SF are the time, counter and scale of its last valid (not
+-- voided) entry. TOTAL is its energy in mWh.
 abbrev pub meter_line : Installation → List ℕ
 meter_line row =
     row.opening.meter ++ codes " " ++ decimal row.opening.at ++ last_text row.last ++ codes " "
     ++ decimal row.total ++ state_word row.ended
 
--- The lines of meters, and a last line with the number of meters.
+-- One line of text for each given meter (its name, installation, last entry, energy and state), and
+-- a last line with the number of meters.
 abbrev pub meters_text : List Installation → List ℕ
 meters_text rows = flat_map meter_line rows ++ end_line (length rows)

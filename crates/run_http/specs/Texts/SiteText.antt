@@ -1,5 +1,5 @@
--- The JSON of `/site`: the accounting registers and their meters. Each definition appends to a
--- text.
+-- The JSON of `/site`: the accounting registers (named energy counters) and their meters. Each
+-- definition appends to a text.
 use Rattle.std.specs.Prelude.{ℕ, List, [], ◌∷◌, ◌++◌, Option, Some, None, codes, decimal}
 use Rattle.std.specs.Fmt.{signed_decimal}
 use Rattle.office_events.specs.declared.questions.Installation.{Installation}
@@ -7,7 +7,7 @@ use Rattle.office_core.specs.declared.site.SiteRow.{SiteRow}
 use Rattle.office_http.specs.Messages.Rows.{bool_text}
 use Rattle.run_http.specs.declared.texts.site.SiteLine.{SiteLine}
 
--- The last valid entry of a meter, as JSON members.
+-- The last valid (not voided) entry of a meter, as JSON members.
 abbrev pub with_last : List ℕ → Installation → List ℕ
 with_last text row =
     text ++ codes "\",\"at\":" ++ decimal row.last.at ++ codes ",\"last\":" ++ decimal row.last.raw
@@ -26,20 +26,20 @@ with_total text row earlier =
     with_earlier (text ++ codes ",\"total\":\"" ++ decimal row.total) earlier
     ++ codes "\",\"ended\":" ++ bool_text row.ended
 
--- The latest meter of an accounting register as JSON, or `null` if there is none. Names consist of
--- letters, digits, `_` and `-`, so JSON need not escape them.
+-- The latest meter of an accounting register (a named energy counter) as JSON, or `null` if there
+-- is none. Names consist of letters, digits, `_` and `-`, so JSON need not escape them.
 abbrev pub with_meter : List ℕ → Option Installation → (earlier : Option ℕ) → List ℕ
 with_meter text None earlier = text ++ codes "\",\"meter\":null"
 with_meter text (Some row) earlier =
     with_total (with_last (text ++ codes "\",\"meter\":\"" ++ row.opening.meter) row) row earlier
 
--- The device and the name of an accounting register, as JSON members.
+-- The device and the name of an accounting register (a named energy counter), as JSON members.
 abbrev pub with_register : (before : List ℕ) → List ℕ → SiteRow → List ℕ
 with_register before text row =
     text ++ before ++ row.register.device
     ++ codes "\",\"register\":\"" ++ row.register.name
 
--- An accounting register with its latest meter, as JSON.
+-- An accounting register (a named energy counter) with its latest meter, as JSON.
 abbrev pub with_line : (before : List ℕ) → List ℕ → SiteLine → List ℕ
 with_line before text line =
     with_meter (with_register before text line.row) line.row.meter line.earlier ++ codes "}"
@@ -50,14 +50,14 @@ with_more_lines text [] = text
 with_more_lines text (line ∷ lines) =
     with_more_lines (with_line (codes ",{\"device\":\"") text line) lines
 
--- All accounting registers as JSON, with commas between them.
+-- All accounting registers (named energy counters) as JSON, with commas between them.
 abbrev pub with_lines : List ℕ → List SiteLine → List ℕ
 with_lines text [] = text
 with_lines text (line ∷ lines) =
     with_more_lines (with_line (codes "{\"device\":\"") text line) lines
 
--- The complete JSON of `/site`: the time of the query, and the accounting registers with their
--- latest meters.
+-- The complete JSON of `/site`: the time of the query, and the accounting registers (named energy
+-- counters) with their latest meters.
 abbrev pub with_site : List ℕ → (at : ℕ) → List SiteLine → List ℕ
 with_site text at lines =
     with_lines (text ++ codes "{\"at\":" ++ decimal at ++ codes ",\"registers\":[") lines

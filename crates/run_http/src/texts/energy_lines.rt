@@ -102,7 +102,8 @@ fn write_entry(text: &mut Vec<u8>, row: &SiteRow, meter: &Installation) -> Resul
     write_number(text, b"\"} ", meter.last.at)
 }
 
-// Appends the energy metric of the latest meter of an accounting register, if the meter is open.
+// Appends the energy metric of the latest meter of an accounting register (a named energy counter),
+// if the meter is open.
 fn write_energy_of(text: &mut Vec<u8>, row: &SiteRow) -> Result<(), AllocError>
     ensures { OnOk result (text.new.items
         ≡ energy.with_energy_of text.old.items row.now row.now.meter) }

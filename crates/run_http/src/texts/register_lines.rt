@@ -1,4 +1,5 @@
-//! Formats the past and present meters of an accounting register as text, one line for each meter.
+//! Formats the past and present meters of an accounting register (a named energy counter) as text,
+//! one line for each meter.
 ghost use Rattle.std.specs.Prelude.{◌≡◌, ◌++◌, OnOk, flat_map};
 ghost use Rattle.run_http.specs.Texts.RegisterLines as lines;
 

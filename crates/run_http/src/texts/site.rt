@@ -1,4 +1,5 @@
-//! Formats the accounting registers and their meters as the JSON of `/site`.
+//! Formats the accounting registers (named energy counters) and their meters as the JSON of
+//! `/site`.
 ghost use Rattle.std.specs.Prelude.{◌≡◌, ◌++◌, OnOk};
 ghost use Rattle.office_http.specs.Messages.Rows.{bool_text};
 ghost use Rattle.run_http.specs.Texts.SiteText as json;
@@ -8,7 +9,7 @@ use office_core::SiteRow;
 use office_events::Installation;
 use std::alloc::AllocError;
 
-/// An accounting register with the meter that was assigned to it last.
+/// An accounting register (a named energy counter) with the meter that was assigned to it last.
 ///
 /// `earlier` is the part of the meter's energy that earlier database files of the store recorded,
 /// in mWh. `earlier` is `None` if these files do not have the meter.
@@ -59,7 +60,8 @@ fn write_total(
     write_bool(text, b"\",\"ended\":", row.ended)
 }
 
-// Appends the latest meter of an accounting register as JSON, or `null` if there is none.
+// Appends the latest meter of an accounting register (a named energy counter) as JSON, or `null` if
+// there is none.
 fn append_meter(
     text: &mut Vec<u8>,
     meter: &Option<Installation>,
@@ -92,7 +94,7 @@ fn write_line(text: &mut Vec<u8>, before: &[u8], line: &SiteLine) -> Result<(), 
     append_bytes(text, b"}")
 }
 
-// Appends accounting registers as JSON, each with a comma before it.
+// Appends accounting registers (named energy counters) as JSON, each with a comma before it.
 fn write_more_lines(text: &mut Vec<u8>, lines: &[SiteLine]) -> Result<(), AllocError>
     ensures { OnOk result (text.new.items ≡ json.with_more_lines text.old.items lines.now) }
 {
@@ -114,9 +116,9 @@ fn write_lines(text: &mut Vec<u8>, lines: &[SiteLine]) -> Result<(), AllocError>
     }
 }
 
-/// Appends the JSON of `/site`: the accounting registers and their latest meters. `moment` is the
-/// time of the query in seconds since 1970-01-01 UTC, and energy is in mWh. If memory runs out,
-/// only a part of the JSON was appended.
+/// Appends the JSON of `/site`: the accounting registers (named energy counters) and their latest
+/// meters. `moment` is the time of the query in seconds since 1970-01-01 UTC, and energy is in mWh.
+/// If memory runs out, only a part of the JSON was appended.
 pub fn write_site(text: &mut Vec<u8>, moment: u64, lines: &[SiteLine]) -> Result<(), AllocError>
     ensures { OnOk result (text.new.items ≡ json.with_site text.old.items moment lines.now) }
 {

@@ -1,4 +1,5 @@
--- Lemmas on the bytes of unread HTTP responses in memory.
+-- Lemmas: the unread HTTP responses in memory take less than the limit of 4 MiB plus the size of
+-- the longest response.
 use Rattle.std.proofs.Common.{◌≡◌, ℕ, ◌-◌, ◌<◌, nat_lt, true, [], ◌∷◌, arith}
 use Rattle.std.proofs.lemmas.Bool.Decides.{nat_tests}
 use Rattle.run_schedule.specs.HttpClients.HeldReplies.{Dropped, HoldsLittle, Made, held_after}

@@ -1,4 +1,5 @@
--- Lemmas on the search for the idle connection with the earliest deadline, slot by slot.
+-- Lemmas: a search through all slots of HTTP connections, one by one, finds the idle connection
+-- with the earliest deadline.
 use Rattle.std.proofs.Common.{◌≡◌, ◌⊎◌, inl, inr, ℕ, ◌+◌, ◌<◌, ◌≤◌, zero, suc, nat_lt, Bool, true, false, cond, List, [], ◌∷◌, length, Option, Some, None, refl, sym, ap, ◌∙◌, subst, arith}
 use Rattle.std.proofs.lemmas.Bool.{ltb-true, ltb-false}
 use Rattle.std.specs.Option.{option_map}

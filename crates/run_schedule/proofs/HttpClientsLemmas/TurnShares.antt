@@ -1,4 +1,5 @@
--- Lemmas on the limits of HTTP responses in one iteration of the main loop.
+-- Lemmas: the limits of one main loop iteration bound the number, the bytes and the duration of its
+-- HTTP responses.
 use Rattle.std.proofs.Common.{◌≡◌, ℕ, ◌+◌, ◌-◌, ◌<◌, zero, suc, Bool, true, false, List, [], ◌∷◌, length, refl, arith}
 use Rattle.std.specs.Prelude.{◌==◌, ◌||◌, sum_by}
 use Rattle.std.proofs.lemmas.List.Sums.{sum_by-cons}

@@ -1,4 +1,5 @@
--- Limits the HTTP responses in one iteration of the main loop, and orders the slots of clients.
+-- Limits the HTTP responses in one iteration of the main loop, and defines the order in which the
+-- client slots are served.
 use Rattle.std.specs.Prelude.{◌≡◌, ℕ, ◌+◌, ◌-◌, ◌%◌, ◌<◌, ◌==◌, ◌||◌, Bool, false, List, [], ◌∷◌, length, sum_by}
 use Rattle.run_schedule.specs.declared.http_clients.turn_share.TurnShare.{TurnShare}
 
@@ -7,12 +8,13 @@ use Rattle.run_schedule.specs.declared.http_clients.turn_share.TurnShare.{TurnSh
 abbrev pub whole : TurnShare
 whole = record { requests = 64; bytes = 262144; milliseconds = 20 }
 
--- True if one of the limits is used up. Then no further response begins in this iteration of the
--- main loop.
+-- True if one of the limits on HTTP responses is used up. Then no further response begins in this
+-- iteration of the main loop.
 abbrev pub is_over : TurnShare → Bool
 is_over share = share.requests == 0 || share.bytes == 0 || share.milliseconds == 0
 
--- What remains of the limits after a response of `bytes` bytes that took `milliseconds` to make.
+-- What remains of the limits of a main loop iteration after a response of `bytes` bytes that took
+-- `milliseconds` to make.
 abbrev pub after : TurnShare → (bytes milliseconds : ℕ) → TurnShare
 after share bytes milliseconds = record {
   requests = share.requests - 1;
@@ -26,14 +28,14 @@ abbrev pub left_after : List (ℕ × ℕ) → TurnShare
 left_after [] = whole
 left_after (one ∷ earlier) = after (left_after earlier) one.0 one.1
 
--- States that each response in the list began before a limit of the main loop's iteration was used
--- up.
+-- States that each HTTP response in a list began before a limit of the main loop's iteration was
+-- used up.
 abbrev pub MayReply : List (ℕ × ℕ) → Type 0
 MayReply [] = Unit {0}
 MayReply (one ∷ earlier) = (is_over (left_after earlier) ≡ false) × MayReply earlier
 
--- States that the list has at most 64 responses. The responses before the latest take less than 256
--- KiB in total, and took less than 20 ms in total to make.
+-- States that a main loop iteration's list of HTTP responses has at most 64. The responses before
+-- the latest take less than 256 KiB in total, and took less than 20 ms in total to make.
 abbrev pub AreFew : List (ℕ × ℕ) → Type 0
 AreFew [] = Unit {0}
 AreFew (one ∷ earlier) =

@@ -1,5 +1,5 @@
--- Defines what the command `run --carry` does with its current file at a given time, and when it
--- decides again.
+-- Defines what the command `run --carry`, which begins a new database file for each period (such as
+-- a month), does with its current file. Also defines when the command decides again.
 use Rattle.std.specs.Prelude.{◌≡◌, ℕ, ◌≤◌, ◌<◌, List, Option, None}
 use Rattle.std.specs.Borrow.{Bor}
 use Rattle.jiff.specs.Words.{epoch_day}
@@ -14,9 +14,9 @@ use Rattle.run_schedule.specs.declared.periods.courses.Course.{Course}
 use Rattle.run_schedule.specs.declared.periods.courses.Course.TheVariants.{Stay, StayAhead, Wait, Carry}
 use Rattle.run_schedule.specs.declared.periods.courses.Rollover.{Rollover}
 
--- States what the program does on a calendar day with the current file, whose period (such as a
--- month) is `led`. A new file has the period that contains this day. The program decides again soon
--- after the end of this period, or soon after the next full hour if it waits.
+-- States what the program does on a calendar day with the current database file, whose period (such
+-- as a month) is `led`. A new file has the period that contains this day. The program decides again
+-- soon after the end of this period, or soon after the next full hour if it waits.
 abbrev pub IsCourseOn : Zone → Rollover → (led : Option (Bor (List ℕ))) → (last_entry : ℕ) → Date
     → (now : ℕ) → Course → Type 0
 IsCourseOn zone by led last_entry day now (Stay until) =
@@ -34,7 +34,8 @@ IsCourseOn zone by led last_entry day now (Carry period until) =
     × IsPeriodUntil zone by.period day by.every now until
 
 -- States what the program does at the time `now` with the current file, whose period (such as a
--- month) is `led`. After `LAST_MOMENT` there are no days, so the program stays in the current file.
+-- month) is `led`. After `LAST_MOMENT` (the latest supported time) there are no days, so the
+-- program stays in the current file.
 pub record IsCourse (zone : Zone) (by : Rollover) (led : Option (Bor (List ℕ)))
     (last_entry now : ℕ) (course : Course) : Type 0 where
   pub on_a_day : now ≤ LAST_MOMENT → (day : Date) × (epoch_day day ≡ day_at zone now)

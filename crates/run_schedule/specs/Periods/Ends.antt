@@ -15,13 +15,14 @@ pub record IsFirstPast (zone : Zone) (last : ℤ) (moment next : ℕ) : Type 0 w
   pub past : last <ℤ day_at zone next
   pub first : (at : ℕ) → moment < at → at < next → day_at zone at ≤ℤ last
 
--- States that, after `moment` and up to `LAST_MOMENT`, no day after `last` begins in the time zone.
+-- States that, after `moment` and up to `LAST_MOMENT` (the latest supported time), no day after
+-- `last` begins in the time zone.
 abbrev pub IsNeverPast : Zone → (last : ℤ) → (moment : ℕ) → Type 0
 IsNeverPast zone last moment =
     (at : ℕ) → moment < at → at ≤ LAST_MOMENT → day_at zone at ≤ℤ last
 
 -- The first time after `moment` at which a day after `last` has begun in the time zone. None if no
--- such day begins by `LAST_MOMENT`.
+-- such day begins by `LAST_MOMENT` (the latest supported time).
 abbrev pub IsPastFrom : Zone → (last : ℤ) → (moment : ℕ) → Option ℕ → Type 0
 IsPastFrom zone last moment (Some next) = IsFirstPast zone last moment next
 IsPastFrom zone last moment None = IsNeverPast zone last moment

@@ -49,8 +49,8 @@ pub record IsFileOf (file : List ℕ) (length : Period) (name text : List ℕ) :
   pub reported : reports length text ≡ true
   pub named : file_of file text ≡ name
 
--- The period in the file name `name`, such as `2026-11` in `office-2026-11.db`, if the rest of
--- `name` is `file`.
+-- The period in the file name `name`, such as `2026-11` in `office-2026-11.db`, if `name` without
+-- the period is `file`.
 abbrev pub IsReportedBy : (file : List ℕ) → Period → (name : List ℕ) → Option (Bor (List ℕ))
     → Type 0
 IsReportedBy file length name (Some text) = IsFileOf file length name text.now
@@ -63,14 +63,15 @@ rank length text =
     2 * 512 * year_in text + (if spells length text then 512 else 0)
     + 32 * month_in text + day_in text
 
--- True if the file of the period `text` outranks the current file among the names so far, or no
--- name so far has a period.
+-- True if the period `text` has a greater rank (by year, then length, month and day) than `led`.
+-- `led` is the period of the highest rank among the file names so far. Also true if no name so far
+-- has a period (`led` is None).
 abbrev pub gives_way : {Z : Type 0} → Option (Vec ℕ Z) → Period → List ℕ → Bool
 gives_way None length text = true
 gives_way (Some led) length text = nat_lt (rank length led.items) (rank length text)
 
 -- States that the file of the period `text` is the current file. It is among the files with the
--- given names, and none of these files has a greater rank.
+-- given names, and none of them has a greater rank (year, length, month and day of its period).
 pub record IsLast (file : List ℕ) (length : Period) (names : List (List ℕ))
     (text : List ℕ) : Type 0 where
   pub reported : reports length text ≡ true

@@ -63,7 +63,7 @@ pub record IsNamed (file : List ℕ) (period : Period) (name text : List ℕ) : 
   pub named : file_of file text ≡ name
 
 -- The period in the file name `name`, such as `2026-11` in `office-2026-11.db`, if the period has
--- this length and the rest of `name` is `file`.
+-- this length and `name` without the period is `file`.
 abbrev pub IsPeriodIn : (file : List ℕ) → Period → (name : List ℕ) → Option (Bor (List ℕ)) → Type 0
 IsPeriodIn file period name (Some text) = IsNamed file period name text.now
 IsPeriodIn file period name None = (text : List ℕ) → ¬ IsNamed file period name text

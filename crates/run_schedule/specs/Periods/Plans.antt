@@ -46,7 +46,7 @@ NothingGoesBack = (led : Bor (List ℕ)) (current : List ℕ) (last_entry now : 
 
 -- The time at which the program changes from a period's file to a new file: the period's end plus a
 -- wait for the last poll. The wait is half of the polling interval `every`, at most 30 s. None if
--- the period has no end.
+-- the period does not end by `LAST_MOMENT` (the latest supported time).
 abbrev pub IsPeriodUntil : Zone → Period → Date → (every now : ℕ) → Option ℕ → Type 0
 IsPeriodUntil zone period day every now (Some until) =
     (next : ℕ) × IsPeriodEnd zone period day now (Some next) × (until ≡ next + min (every / 2) 30)
@@ -54,7 +54,7 @@ IsPeriodUntil zone period day every now None = IsPeriodEnd zone period day now N
 
 -- The time of the next attempt after the program failed to begin a new file: the next full hour
 -- plus a wait for a poll. The wait is half of the polling interval `every`, at most 30 s. None if
--- `now` is after `LAST_MOMENT`.
+-- `now` is after `LAST_MOMENT` (the latest supported time).
 abbrev pub next_try : (every now : ℕ) → Option ℕ
 next_try every now =
     if nat_lt LAST_MOMENT now then None

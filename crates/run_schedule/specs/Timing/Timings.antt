@@ -16,8 +16,8 @@ pub record IsDue (every now at : ℕ) : Type 0 where
   pub grid : (k : ℕ) × (at ≡ k * every)
   pub first : (k : ℕ) → now < k * every → at ≤ k * every
 
--- States that `at` is when to reconnect to a failed device: after the pause, but no later than at
--- its next poll.
+-- States that `at` is when to reconnect to a device whose connection failed at `now`: after `pause`
+-- seconds, but no later than at the device's next poll.
 pub record IsRetried (every now pause at : ℕ) : Type 0 where
   pub due : ℕ
   pub is_due : IsDue every now due

@@ -1,4 +1,5 @@
-//! Chooses the slot for a new HTTP connection.
+//! Chooses the slot for a new HTTP connection: the first free slot, otherwise that of the idle
+//! connection with the earliest deadline.
 ghost use Rattle.std.specs.Prelude.{◌≡◌, position};
 ghost use Rattle.std.specs.Option.{option_map};
 ghost use Rattle.run_schedule.specs.HttpClients.Places as specs;
@@ -6,8 +7,8 @@ ghost use Rattle.run_schedule.specs.HttpClients.Places.{IsChosen, IsOldest};
 
 use crate::http_clients::place::Place;
 
-// Returns the idle connection with the earlier deadline: `best` or the connection in slot `i`. If
-// slot `i` has no idle connection, returns `best`. The result and `best` are pairs of a slot and
+// Returns the idle HTTP connection with the earlier deadline: `best` or the connection in slot `i`.
+// If slot `i` has no idle connection, returns `best`. The result and `best` are pairs of a slot and
 // its deadline.
 fn older(best: Option<(usize, u64)>, i: usize, place: Place) -> Option<(usize, u64)>
     ensures { result ≡ specs.older best i place }

@@ -9,7 +9,8 @@ pub const MOST_CLIENTS: usize = 64;
 #[derive(Clone, Copy, PartialEq, Eq)]
 pub struct Admission {
     pub place: usize,
-    /// Whether the slot had an idle connection. The caller must close that connection.
+    /// Whether the slot had an idle HTTP connection before the new one. The caller must close the
+    /// idle connection.
     pub drops: bool,
 }
 
@@ -33,8 +34,8 @@ impl ClientSlots {
         }
     }
 
-    /// Assigns a slot to a new connection, whose deadline is `seconds` after `now`. The slot is
-    /// free or has an idle connection; without such a slot the result is `None`.
+    /// Assigns a slot to a new HTTP connection, whose deadline is `seconds` after `now`. The slot
+    /// is free or has an idle connection; without such a slot the result is `None`.
     pub fn admit(&mut self, now: u64, seconds: u64) -> Option<Admission>
         ensures { Admits (min (now + seconds) (2 ^ 64 - 1)) self.old.places self.new.places result }
     {
@@ -47,7 +48,8 @@ impl ClientSlots {
         Some(Admission { place, drops })
     }
 
-    /// Records that the client in a slot has sent its request.
+    /// Records that the client in slot `place` (the index of its HTTP connection) has sent its
+    /// request.
     pub fn ask(&mut self, place: usize)
         requires { place < 64 }
         ensures { self.new.places ≡ places.asked_at place self.old.places }
@@ -55,8 +57,8 @@ impl ClientSlots {
         self.places[place] = self.places[place].asked();
     }
 
-    /// Records that the client in a slot got its response. The connection becomes idle with the
-    /// deadline `until`, and a new connection may replace it.
+    /// Records that the client in a slot got its response. The HTTP connection becomes idle with
+    /// the deadline `until`, and a new connection may replace it.
     pub fn set_idle(&mut self, place: usize, until: u64)
         requires { place < 64 }
         ensures { self.new.places ≡ slice_set self.old.places place (Place.Silent until) }
@@ -64,7 +66,7 @@ impl ClientSlots {
         self.places[place] = Place::Silent(until);
     }
 
-    /// Frees the slot of a connection that has ended.
+    /// Frees the slot of an HTTP connection that has ended.
     pub fn free_slot(&mut self, place: usize)
         requires { place < 64 }
         ensures { self.new.places ≡ slice_set self.old.places place Place.Free }
@@ -72,8 +74,8 @@ impl ClientSlots {
         self.places[place] = Place::Free;
     }
 
-    /// Closes a slot to new connections. The slot then looks like a connection that waits for its
-    /// response without a deadline.
+    /// Closes a slot to new connections. The slot then looks like an HTTP connection that waits for
+    /// its response without a deadline.
     pub fn shut(&mut self, place: usize)
         requires { place < 64 }
         ensures { self.new.places ≡ slice_set self.old.places place (Place.Asked (2 ^ 64 - 1)) }
@@ -81,7 +83,7 @@ impl ClientSlots {
         self.places[place] = Place::Asked(u64::MAX);
     }
 
-    /// Returns whether the deadline of the connection in a slot has passed.
+    /// Returns whether the deadline of the HTTP connection in a slot has passed.
     pub fn is_over(&self, place: usize, now: u64) -> bool
         requires { place < 64 }
         ensures { result ≡ places.is_over_at place now self.now.places }

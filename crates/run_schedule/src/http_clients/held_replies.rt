@@ -15,8 +15,8 @@ pub fn may_reply(held: usize) -> bool
     held < MOST_HELD
 }
 
-/// Theorem: if the server makes responses only while `may_reply` allows it, the unread responses
-/// take less than 4 MiB plus the size of the longest response.
+/// Theorem: if the server makes responses only while `may_reply` allows it (less than 4 MiB are
+/// unread), the unread responses take less than 4 MiB plus the longest response.
 pub fn little_is_held()
     ensures { HoldsLittle }
 {}

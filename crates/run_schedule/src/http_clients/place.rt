@@ -5,8 +5,8 @@
 pub enum Place {
     /// The slot has no HTTP connection.
     Free,
-    /// The slot's connection is idle: its client has sent no request yet, or got its response. The
-    /// value is the deadline.
+    /// The slot's HTTP connection is idle: its client has sent no request yet, or got its response.
+    /// The value is the deadline.
     Silent(u64),
     /// The slot's client sent a request and waits for the response. The value is the deadline.
     Asked(u64),
@@ -16,7 +16,7 @@ impl Place {
     ghost use Rattle.std.specs.Prelude.{◌≡◌};
     ghost use Rattle.run_schedule.specs.HttpClients.Places as places;
 
-    /// Returns whether the slot has no connection.
+    /// Returns whether this slot (one of the places for HTTP connections) has no connection.
     pub fn is_free(self) -> bool
         ensures { result ≡ places.is_free self }
     {
@@ -27,7 +27,7 @@ impl Place {
         }
     }
 
-    /// Returns whether the deadline of the slot's connection has passed.
+    /// Returns whether the deadline of the slot's HTTP connection has passed.
     pub fn is_over(self, now: u64) -> bool
         ensures { result ≡ places.is_over now self }
     {
@@ -38,7 +38,7 @@ impl Place {
         }
     }
 
-    /// Returns the state of the slot after the client of its idle connection sent a request.
+    /// Returns the state of the slot after the client of its idle HTTP connection sent a request.
     pub fn asked(self) -> Place
         ensures { result ≡ places.asked self }
     {
@@ -49,7 +49,8 @@ impl Place {
         }
     }
 
-    /// Returns the deadline of the slot's connection if the connection is idle, otherwise `None`.
+    /// Returns the deadline of the slot's HTTP connection if the connection is idle, otherwise
+    /// `None`.
     pub fn silent_until(self) -> Option<u64>
         ensures { result ≡ places.silent_until self }
     {

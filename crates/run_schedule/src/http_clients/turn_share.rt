@@ -1,4 +1,5 @@
-//! Limits the HTTP responses in one iteration of the main loop, and orders the slots of clients.
+//! Limits the HTTP responses in one iteration of the main loop, and defines the order in which the
+//! client slots are served.
 ghost use Rattle.std.specs.Prelude.{◌≡◌, ◌<◌, ℕ, List};
 ghost use Rattle.run_schedule.specs.HttpClients.TurnShares as shares;
 ghost use Rattle.run_schedule.specs.HttpClients.TurnShares.{AreFew, MayReply};
@@ -57,9 +58,9 @@ impl TurnShare {
     }
 }
 
-/// Theorem: if each response begins before a limit is used up, an iteration has at most 64
-/// responses. The responses before the latest take less than 256 KiB in total, and took less than
-/// 20 ms in total to make.
+/// Theorem: if each response begins before a limit of the main loop's iteration is used up, the
+/// iteration has at most 64 responses. The responses before the latest take less than 256 KiB in
+/// total, and took less than 20 ms in total to make.
 pub fn replies_are_few()
     ensures { (replies : List (ℕ × ℕ)) → MayReply replies → AreFew replies }
 {}
@@ -72,9 +73,10 @@ pub fn place_at(first: usize, step: usize) -> usize
     first.saturating_add(step) % MOST_CLIENTS
 }
 
-/// Theorem: each iteration of the main loop reaches every client slot. Suppose that an iteration
-/// serves a slot before a waiting slot, and the next iteration begins directly after the served
-/// slot. Then the waiting slot's turn comes earlier in the next iteration.
+/// Theorem: the order in which an iteration of the main loop serves the client slots includes every
+/// slot. Suppose that slot `other` comes before slot `place` in this order, and the next iteration
+/// begins directly after slot `other`. Then fewer slots come before slot `place` in the next
+/// iteration.
 pub fn turns_go_round()
     ensures each { (first place : ℕ) → first < 64 → place < 64
         → shares.place_at first (shares.before place first) ≡ place }

@@ -1,5 +1,5 @@
-//! Decides what the command `run --carry` does with its current file at a given time, and when it
-//! decides again.
+//! Decides what the command `run --carry`, which begins a new database file for each period (such
+//! as a month), does with its current file. Also decides when the command decides again.
 ghost use Rattle.std.specs.Prelude.{◌≤◌};
 ghost use Rattle.run_schedule.specs.Periods.Courses.{IsCourse, IsCourseOn};
 
@@ -16,22 +16,25 @@ pub struct Rollover {
     pub every: u64,
 }
 
-/// What `run --carry` does with its current file. `until` is the time at which it decides again, in
-/// seconds since 1970-01-01 UTC, or `None` if it never does.
+/// What `run --carry` does with its current database file. `until` is the time at which the command
+/// decides again, in seconds since 1970-01-01 UTC, or `None` if it never does.
 #[derive(Drop)]
 pub enum Course {
     /// The command `run --carry` keeps using its current database file.
     Stay { until: Option<u64> },
-    /// The command keeps using the file, whose period is later than the clock's period.
+    /// The command `run --carry` keeps using its current database file, although the file's period
+    /// (such as a month) is later than the clock's period.
     StayAhead { until: Option<u64> },
-    /// The command keeps using the file for now: the file's period is over, but its latest record
-    /// is later than the clock.
+    /// The command `run --carry` keeps using its current database file for now: the file's period
+    /// is over, but its latest record is later than the clock.
     Wait { until: Option<u64> },
-    /// The command continues all meters in the new file of `period`, such as `2026-11`.
+    /// The command `run --carry` continues all meters in a new database file, which has the period
+    /// `period`, such as `2026-11`.
     Carry { period: Line, until: Option<u64> },
 }
 
-// Decides what to do with the current file on the day of a given time.
+// Decides what the command `run --carry` does with its current database file on the calendar day of
+// a given time.
 fn course_on(
     zone: &Zone,
     by: Rollover,
@@ -56,9 +59,10 @@ fn course_on(
     }
 }
 
-/// Decides what `run --carry` does with its current file at the time `now`. `led` is the period in
-/// the file's name, or `None` if the name has no period. `last_entry` is the timestamp of the
-/// file's latest record. After `LAST_MOMENT`, the program stays in its file.
+/// Decides what `run --carry` does with its current database file at the time `now`. `led` is the
+/// period in the file's name, or `None` if the name has no period. `last_entry` is the timestamp of
+/// the file's latest record. After `LAST_MOMENT` (the latest supported time), the program stays in
+/// its file.
 pub fn course_at(zone: &Zone, by: Rollover, led: Option<&[u8]>, last_entry: u64, now: u64) -> Course
     ensures { IsCourse zone.now by led.entry last_entry now result }
 {

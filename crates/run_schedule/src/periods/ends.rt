@@ -8,7 +8,7 @@ ghost use Rattle.run_schedule.specs.Periods.Ends.{IsPastFrom, IsPeriodEnd};
 use energy_report::Period;
 use interval_core::{Day, LAST_MOMENT, Zone, day_of};
 
-/// The seconds of a day.
+/// The length of a day: 86,400 seconds.
 const DAY: i64 = 86_400;
 
 /// The greatest UTC offset of a time zone in seconds, east or west: 25:59:59.
@@ -68,7 +68,7 @@ fn first_past(zone: &Zone, last: Day, moment: u64) -> Option<u64>
 
 /// Returns the first time after `moment` at which the period that contains `day` is over in a time
 /// zone. A period is over when a day after its last day has begun. Returns `None` if the period
-/// does not end by `LAST_MOMENT`.
+/// does not end by `LAST_MOMENT` (the latest supported time).
 pub fn period_end(zone: &Zone, period: Period, day: Day, moment: u64) -> Option<u64>
     ensures { IsPeriodEnd zone.now period day moment result }
 {

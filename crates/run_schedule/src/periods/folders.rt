@@ -26,7 +26,8 @@ pub fn active_period(
     Ok(led)
 }
 
-// Returns the period in a file name, if it is before the period `current`.
+// Returns the calendar period in a file name (such as `2026-10`), if the period is before the
+// period `current`.
 fn earlier_period<'a>(
     file: &[u8],
     length: Period,
@@ -49,7 +50,8 @@ fn earlier_period<'a>(
     }
 }
 
-// Appends the period in a file name to a list, if it is before the period `current`.
+// Appends the calendar period in a file name (such as `2026-10`) to a list, if the period is before
+// the period `current`.
 fn add_earlier(
     texts: &mut Vec<Vec<u8>>,
     alloc: Global,
@@ -70,7 +72,8 @@ fn add_earlier(
     }
 }
 
-// Returns the periods before `current` in file names, in the order of the names.
+// Returns the calendar periods (such as `2026-10`) before `current` in file names, in the order of
+// the names.
 fn list_earlier(
     alloc: Global,
     file: &[u8],

@@ -64,8 +64,8 @@ fn rank(length: Period, text: &[u8]) -> u32
     2 * 512 * year + own + 32 * month + day
 }
 
-// Returns the period in a file name. The period has the configured length, or the alternative
-// length (`other_length`).
+// Returns the period in a file name, such as `2026-11`. The period has the configured length (such
+// as a month), or the alternative length (such as a year).
 fn name_by_length<'a>(file: &[u8], length: Period, name: &'a [u8]) -> Option<&'a [u8]>
     ensures { IsReportedBy file.now length name.now result }
 {
@@ -100,7 +100,8 @@ impl ActivePeriod {
     }
 
     // Returns whether the file of the period `text` outranks the current file among the file names
-    // seen so far.
+    // seen so far. A file's rank is that of its period's year, length, month and day, in this
+    // order.
     fn gives_way_to(&self, length: Period, text: &[u8]) -> bool
         ensures { result ≡ numbers.gives_way self.now.text length text.now }
     {

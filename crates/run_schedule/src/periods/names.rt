@@ -71,7 +71,8 @@ fn is_year(a: u8, b: u8, c: u8, d: u8) -> bool
     is_digit(a) && is_digit(b) && is_digit(c) && is_digit(d)
 }
 
-// Returns whether a text has the form of a period of this length, such as `2026-11` for a month.
+// Returns whether a text has the form of a calendar period of the length `length`, such as
+// `2026-11` for a month.
 pub(crate) fn spells(period: Period, text: &[u8]) -> bool
     ensures { result ≡ named.spells period text.now }
 {
@@ -120,8 +121,8 @@ fn between<'a>(name: &'a [u8], stem: &[u8], suffix: &[u8]) -> Option<&'a [u8]>
     }
 }
 
-/// Returns the period in a file name, if the period has the length `period` and the rest of the
-/// name is `file`. For example, `office-2026-11.db` contains the month `2026-11` for the file
+/// Returns the period in a file name, if the period has the length `period` and the name without
+/// the period is `file`. For example, `office-2026-11.db` contains the month `2026-11` for the file
 /// `office.db`.
 pub fn period_of_file<'a>(file: &[u8], period: Period, name: &'a [u8]) -> Option<&'a [u8]>
     ensures { IsPeriodIn file.now period name.now result }

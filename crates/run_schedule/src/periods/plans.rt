@@ -12,17 +12,20 @@ use interval_core::{Day, LAST_MOMENT, Zone};
 /// The seconds of an hour.
 const HOUR: u64 = 3600;
 
-/// The decision about the current file, in which energy is recorded.
+/// The decision whether the program continues to record energy in the current database file, or
+/// begins a new file for the current period (such as a month).
 #[derive(Clone, Copy, PartialEq, Eq)]
 pub enum Plan {
-    /// Continue in the file: its period is the current one.
+    /// Continue in the current file: the file's period (such as a month) is the period of the
+    /// clock's time.
     Stay,
-    /// Continue in the file: its period is later than the clock's period.
+    /// Continue in the current file: the file's period (such as a month) is later than the clock's
+    /// period.
     StayAhead,
-    /// Continue in the file for now: its period is over, but its latest record is later than the
-    /// clock.
+    /// Continue in the current file for now: the file's period is over, but its latest record is
+    /// later than the clock.
     Wait,
-    /// Continue all meters in a new file for the current period.
+    /// The program must continue all open meters in a new database file for the current period.
     Carry,
 }
 
@@ -52,8 +55,8 @@ fn plan_of_past(last_entry: u64, now: u64) -> Plan
     }
 }
 
-/// Decides what to do with the current file. `led` is the period in the file's name, or `None` if
-/// the name has no period.
+/// Decides what to do with the current file: record in it, wait for the clock, or continue in a new
+/// file. `led` is the period in the current file's name, or `None` if the name has no period.
 ///
 /// `current` is the current period, such as `2026-11`. Times are in seconds since 1970-01-01 UTC.
 pub fn plan_of(led: Option<&[u8]>, current: &[u8], last_entry: u64, now: u64) -> Plan
@@ -83,7 +86,7 @@ pub fn nothing_goes_back()
 /// Returns the time at which the program changes from the file of the period that contains `day` to
 /// a new file. This is the period's end in the time zone plus a wait for the last poll. The wait is
 /// half of the polling interval `every` (in seconds), at most 30 s. Returns `None` if the period
-/// has no end.
+/// does not end by `LAST_MOMENT` (the latest supported time).
 pub fn period_until(zone: &Zone, period: Period, day: Day, every: u64, now: u64) -> Option<u64>
     ensures { IsPeriodUntil zone.now period day every now result }
 {
@@ -95,7 +98,7 @@ pub fn period_until(zone: &Zone, period: Period, day: Day, every: u64, now: u64)
 
 /// Returns when to retry after the program failed to begin a new file: at the next full hour plus a
 /// wait for that hour's poll. The wait is half of the polling interval `every` (in seconds), at
-/// most 30 s. Returns `None` if `now` is after `LAST_MOMENT`.
+/// most 30 s. Returns `None` if `now` is after `LAST_MOMENT` (the latest supported time).
 pub fn next_try(every: u64, now: u64) -> Option<u64>
     ensures { result ≡ specs.next_try every now }
 {

@@ -1,4 +1,4 @@
-//! The time limits of operations, in seconds.
+//! The time limits of connection attempts, client connections and polling rounds, in seconds.
 ghost use Rattle.std.specs.Prelude.{◌≡◌, ◌-◌, ◌+◌, ◌^◌, min, max};
 
 /// The maximum number of seconds for connecting to a device.

@@ -14,7 +14,8 @@ pub struct OnwardTime {
 impl OnwardTime {
     ghost use Rattle.std.specs.Prelude.{◌≡◌, max};
 
-    /// Makes a time that follows the clock without a lower bound.
+    /// Makes an `OnwardTime` (a time that follows the clock, but is never earlier than a lower
+    /// bound) with the lower bound 0.
     pub fn new() -> OnwardTime
         ensures { result ≡ record { least = 0; latest = 0 } }
     {
@@ -36,7 +37,8 @@ impl OnwardTime {
         moment
     }
 
-    /// Makes the latest reported time the lower bound for the next run of the polling loop.
+    /// Raises the lower bound for the times of the next run of the polling loop to the latest time
+    /// that was reported.
     pub fn advance_least(&mut self)
         ensures { self.new ≡ record { least = self.old.latest; latest = self.old.latest } }
     {

@@ -17,8 +17,8 @@ pub fn next_pause(before: u64) -> u64
     before.saturating_mul(2).min(MOST_PAUSE)
 }
 
-/// Returns when to reconnect to a device that failed at `now`: after the pause, but no later than
-/// at its next poll `due`.
+/// Returns when to reconnect to a device whose connection failed at `now`: after `pause` seconds,
+/// but no later than at `due`, the time of the device's next poll.
 pub fn retry_at(now: u64, pause: u64, due: u64) -> u64
     ensures { result ≡ min (min (now + pause) (2 ^ 64 - 1)) due }
 {

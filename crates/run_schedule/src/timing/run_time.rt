@@ -6,16 +6,19 @@ ghost use Rattle.run_schedule.specs.Timing.RunTimes.{time_by};
 /// clock, so setting the system's clock changes no timeout.
 #[derive(Clone, Copy)]
 pub struct RunTime {
-    /// The time at the start, in milliseconds since 1970-01-01 UTC.
+    /// The program's time (which follows the monotonic clock) at the program's start, in
+    /// milliseconds since 1970-01-01 UTC.
     pub base: u64,
-    /// The reading of the monotonic clock at the start, in milliseconds.
+    /// The reading of the monotonic clock at the program's start, in milliseconds.
     pub began: u64,
-    /// The time at the latest reading, in milliseconds since 1970-01-01 UTC.
+    /// The program's time at the latest reading of the monotonic clock, in milliseconds since
+    /// 1970-01-01 UTC.
     pub latest: u64,
 }
 
 impl RunTime {
-    /// Starts the time at `base` milliseconds, while the monotonic clock reads `even` milliseconds.
+    /// Starts the program's time at `base` milliseconds, while the monotonic clock reads `even`
+    /// milliseconds.
     pub fn new(base: u64, even: u64) -> RunTime
         ensures { result ≡ record { base = base; began = even; latest = base } }
     {
@@ -26,7 +29,7 @@ impl RunTime {
         }
     }
 
-    /// Advances the time to a new reading `even` of the monotonic clock, in milliseconds.
+    /// Advances the program's time to a new reading `even` of the monotonic clock, in milliseconds.
     pub fn read(&mut self, even: u64)
         ensures time { self.new ≡ record self.old { latest = time_by self.old even } }
         ensures on { self.old.latest ≤ self.new.latest }
@@ -35,7 +38,7 @@ impl RunTime {
         self.latest = self.latest.max(self.base.saturating_add(passed));
     }
 
-    /// Returns the time in whole seconds since 1970-01-01 UTC.
+    /// Returns the program's time in whole seconds since 1970-01-01 UTC.
     pub fn seconds(&self) -> u64
         ensures { result ≡ self.now.latest / 1000 }
     {

@@ -2,14 +2,15 @@
 ghost use Rattle.std.specs.Prelude.{◌≡◌, ◌≤◌, false};
 ghost use Rattle.run_schedule.specs.Timing.SteadyClocks.{ahead_by, read_by, clock_after};
 
-/// The maximum number of seconds that the clock may advance between two readings without a message.
+/// The maximum number of seconds that the clock may advance between two readings without a message
+/// to the operator.
 const MOST_AHEAD: u64 = 60;
 
 /// A timestamp that never goes back, and what to report about the clock that it comes from.
 #[derive(Clone, Copy)]
 pub struct ClockReading {
-    /// The timestamp of an event that arrives now: the clock's time or the latest timestamp,
-    /// whichever is later.
+    /// The timestamp of an event that arrives now: the clock's time, or the latest earlier
+    /// timestamp if that is later.
     pub moment: u64,
     /// The number of seconds by which the clock is before the latest timestamp. `None` except at
     /// the first reading after the clock was set back.
@@ -33,14 +34,15 @@ fn ahead_from(latest: u64, now: u64) -> Option<u64>
 /// The state of a clock that may be set back.
 #[derive(Clone, Copy)]
 pub struct SteadyClock {
-    /// The latest timestamp, in seconds since 1970-01-01 UTC.
+    /// The latest timestamp that this clock has returned or started with, in seconds since
+    /// 1970-01-01 UTC.
     pub latest: u64,
     /// Whether the clock was before the latest timestamp at the previous reading.
     pub is_back: bool,
 }
 
 impl SteadyClock {
-    /// Makes a clock that continues from a timestamp.
+    /// Makes a clock that never returns a timestamp before `latest`.
     pub fn new(latest: u64) -> SteadyClock
         ensures latest { result.latest ≡ latest }
         ensures back { result.is_back ≡ false }

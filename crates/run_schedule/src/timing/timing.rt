@@ -15,7 +15,8 @@ pub enum Phase {
     Polling,
 }
 
-/// The time at which a device needs attention next, and why.
+/// The state of the connection to a device, with the time of the next connection attempt or the
+/// current deadline.
 #[derive(Clone, Copy, PartialEq, Eq)]
 pub struct Timing {
     pub phase: Phase,
@@ -32,7 +33,8 @@ impl Timing {
     ghost use Rattle.run_schedule.specs.Timing.Timings as timings;
     ghost use Rattle.run_schedule.specs.Timing.Timings.{IsDue, IsRetried};
 
-    /// Makes a device without a connection. It is due at the first multiple of `every` after `now`.
+    /// Makes the state of a device without a connection. The device's first connection attempt is
+    /// due at the first multiple of the polling interval `every` after `now`.
     pub fn new(every: u64, now: u64) -> Timing
         requires some { 0 < every }
         requires fits { now + every < 2 ^ 64 }
@@ -87,7 +89,7 @@ impl Timing {
     }
 
     /// Records that the connection attempt failed. The next attempt follows after a growing pause,
-    /// but no later than at the next multiple of `every`.
+    /// but no later than at the next multiple of the polling interval `every`.
     pub fn fail(&mut self, every: u64, now: u64)
         requires some { 0 < every }
         requires fits { now + every < 2 ^ 64 }
@@ -100,8 +102,8 @@ impl Timing {
         self.at = retry_at(now, self.pause, next_due(every, now));
     }
 
-    /// Records that the connection has ended. The device is due at the first multiple of `every`
-    /// after `now`.
+    /// Records that the connection has ended. The next connection attempt is due at the first
+    /// multiple of the polling interval `every` after `now`.
     pub fn rest(&mut self, every: u64, now: u64)
         requires some { 0 < every }
         requires fits { now + every < 2 ^ 64 }

@@ -1,4 +1,5 @@
--- Lemmas on executing, in order, the lines that set up a simulated device.
+-- Lemmas: the lines that set up a simulated device are executed in order, and give the output that
+-- their specification defines.
 use Rattle.std.proofs.Common.{◌≡◌, inl, inr, ℕ, Option, List, [], ◌∷◌, ◌++◌, refl, sym, subst, append_assoc, append-nil}
 use Rattle.std.specs.Prelude.{Result, Ok, Err}
 use Rattle.std.specs.Io.KnownBytes.{Appends}
@@ -12,7 +13,8 @@ use Rattle.script_run.specs.Bank.Texts.{SetUpBegins, SetsUp, taken_text}
 use Rattle.script_run.specs.Bank.Running.{LineRan, LineRuns, TextRuns}
 
 -- Loop invariant: the output of all setup lines of a simulated device is the output so far,
--- followed by the output of the remaining lines. The same holds if the run is interrupted.
+-- followed by the output of the remaining lines. This is also true for the output of an interrupted
+-- run.
 pub record SoFar (start : Setting) (all : List Line) (now : Setting) (lines : List Line) (printed : List ℕ) : Type 0 where
   pub prints : (rest : List ℕ) (ended : Result Setting ExitStatus) → SetsUp now lines rest ended → SetsUp start all (printed ++ rest) ended
   pub begins : (part : List ℕ) → SetUpBegins now lines part → SetUpBegins start all (printed ++ part)

@@ -1,4 +1,5 @@
--- Lemmas on the output of a run that was interrupted, because a write failed or memory ran out.
+-- Lemmas: if the run of a loop (a script with simulated devices) is interrupted, because a write
+-- failed or memory ran out, the writer received a beginning of the run's output.
 use Rattle.std.proofs.Common.{inl, inr, ℕ, Bool, List, [], ◌++◌, Option, refl, sym, ◌∙◌, ap, append_assoc}
 use Rattle.std.specs.Prelude.{Result, Ok, Err, IsErr, true, false}
 use Rattle.std.specs.Io.KnownBytes.{Appends}

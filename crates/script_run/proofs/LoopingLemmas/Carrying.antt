@@ -1,4 +1,5 @@
--- Lemmas on executing the lines of a script with simulated devices.
+-- Lemmas on executing single lines of a script with simulated devices. Lines that do not use these
+-- devices have the same effect as in a script without them.
 use Rattle.std.proofs.Common.{◌≡◌, ◌⊎◌, inl, inr, ℕ, Bool, true, false, List, [], Option, refl, sym, subst}
 use Rattle.std.specs.Prelude.{Result, Ok, Err, IsErr}
 use Rattle.std.specs.Io.KnownBytes.{Appends}
@@ -26,8 +27,8 @@ use Rattle.script_run.specs.Looping.TextRun.{LineRuns}
 use Rattle.script_run.specs.Looping.Standings.{Begins, Carried, CarriedOut, Carries, CarriesOut, LoopState, LoopStage, loop_state, stage_on}
 use Rattle.script_run.proofs.LoopingLemmas.Breaking.{begins_as}
 
--- States that a line was executed with the given text as its output. Also states that the stored
--- records match the history of accepted events after the line.
+-- States that a script line was executed with the given text as its output. Also states that the
+-- stored records are those of the history of accepted events after the line.
 pub record Reported (P : Stage → List ℕ → Stage → Type 0) (past : History) (office office' : Office ListBooks) (text : List ℕ) : Type 0 where
   pub after : History
   pub prints : P (stage_of past office) text (stage_of after office')
@@ -38,8 +39,8 @@ pub record ReportedOut (P : LoopStage → List ℕ → LoopStage → Type 0) (pa
   pub prints : P (stage_on past from) text (stage_on after to)
   pub stands : Stands ledger_of after to.office
 
--- If the complete output of a line was written, then the line was executed. If the write failed,
--- then the writer received a beginning of this output.
+-- If the complete output of a script line was written, then the line was executed. If the write
+-- failed, then the writer received a beginning of this output.
 pub writing : (r : Result (Unit {0}) Error) (text : List ℕ) (office office' : Office ListBooks) (o o' : Option (List ℕ))
     (P : Stage → List ℕ → Stage → Type 0) → GotText r text o o'
     → ((past : History) → Stands ledger_of past office → Reported P past office office' text)
@@ -94,8 +95,8 @@ pub as_script_may : (P : Stage → List ℕ → Stage → Type 0) (past : Histor
 as_script_may P past office office' ok o o' (inl done) = as_script P past office office' ok o o' done
 as_script_may P past office office' ok o o' (inr none) = absurd (let e = none.0 in cc)
 
--- If a line was executed according to the specification `P`, then it was also executed according to
--- every weaker specification `Q`.
+-- If a script line was executed according to the specification `P`, then it was also executed
+-- according to every weaker specification `Q`.
 pub out_as : (P Q : LoopStage → List ℕ → LoopStage → Type 0) (past : History) (from to : LoopState)
     → ((now : LoopStage) (printed : List ℕ) (next : LoopStage) → P now printed next → Q now printed next)
     → CarriedOut P past from to → CarriedOut Q past from to
@@ -206,8 +207,8 @@ happens_connected at e device past office office' maps connected o o' is done =
     (loop_state office maps connected o) (loop_state office' maps true o') done
     (λ printed after prints. record { prints = prints; maps = refl; connected = refl }))
 
--- If an event does not use the simulator and a failed write interrupts its line, then the writer
--- received a beginning of the line's output.
+-- Suppose that a failed write interrupts the output of a script line, and that the line's event
+-- does not use the simulator. Then the writer received a beginning of this output.
 pub plain_begun : (at : ℕ) (e : Event) (past : History) (office : Office ListBooks) (maps : Maps) (connected : Bool) (o o' : Option (List ℕ))
     → Begins (λ printed. (done : Unit {0}) × (next : Stage) × EventPrints (stage_of past office) at e printed next) o o'
     → Begins (λ printed. (next : LoopStage) × PlainPrints at e (stage_on past (loop_state office maps connected o)) printed next) o o'
@@ -231,7 +232,7 @@ happens_begun at e device past office maps connected o o' is begun =
     )) begun)
 
 -- If a call for a script line returns `true`, then the call executed the line. The line's output
--- and the history after it satisfy the specification.
+-- and the history after the line satisfy the line's specification.
 pub line_done : (fine : Bool) (P : LoopStage → List ℕ → LoopStage → Type 0) (Wrong : Type 0) (from to : LoopState) → fine ≡ true
     → LineRuns (Ok fine) P Wrong from to → (past : History) → Stands ledger_of past from.office → CarriedOut P past from to
 line_done true P Wrong from to is runs = runs

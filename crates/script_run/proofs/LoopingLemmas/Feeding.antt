@@ -1,5 +1,5 @@
--- Lemmas on events that a script with simulated devices passes to the program, which accepts or
--- refuses them.
+-- Lemmas: the output for the events that a script with simulated devices passes to the program is
+-- as the script's specification requires.
 use Rattle.std.proofs.Common.{◌≡◌, ◌⊎◌, ◌≤◌, ◌+◌, ◌++◌, append-nil, inl, inr, ℕ, Bool, true, false, List, [], ◌∷◌, Option, refl, sym, ap, ◌∙◌, subst, arith, length}
 use Rattle.std.specs.Prelude.{Result, Ok, Err, codes, is_ok}
 use Rattle.std.specs.Io.KnownBytes.{Appends}
@@ -32,8 +32,8 @@ use Rattle.script_run.specs.declared.looping.answers.Came.{Came}
 appended_none : (o m o' : Option (List ℕ)) (text : List ℕ) → Appends o m text → Appends m o' [] → Appends o o' text
 appended_none o m o' text first second = subst (λ (t : List ℕ). Appends o o' t) (append-nil text) (Appends-trans o m o' text [] first second)
 
--- States that `IsReply` allows the program's reply to an event, and that the stored records match
--- the history after the event.
+-- States that the specification `IsReply` allows the program's reply to an event, and that the
+-- stored records are those of the history after the event.
 pub record Replied (past : History) (at : ℕ) (e : Event) (reply : Result Answer Refusal) (office office' : Office ListBooks)
     : Type 0 where
   pub is : IsReply (stage_of past office) at e reply
@@ -243,8 +243,8 @@ fed_refused takes device at past came e accepted office mid office' o m o' most 
       stands = done.stands;
     }
 
--- States that a failed write interrupted a line that starts Modbus reads, and that the writer
--- received a beginning of the line's output, possibly nothing.
+-- States that a failed write interrupted a script line that starts Modbus reads, and that the
+-- writer received a beginning of the line's output, possibly nothing.
 abbrev pub StartBegins : (at : ℕ) → (device : Option (List ℕ)) → Event → History → Office ListBooks → Maps → Bool → (o o' : Option (List ℕ)) → Type 0
 StartBegins at device e past office maps connected o o' =
     Begins (λ printed. (done : Unit {0}) × (next : LoopStage)
@@ -262,8 +262,8 @@ answers_none device at now = record {
   text = refl;
 }
 
--- Suppose that only a part of the reply to a line that starts Modbus reads was written. Then the
--- writer received a beginning of the line's output.
+-- Suppose that only a part of the reply to a script line that starts Modbus reads was written. Then
+-- the writer received a beginning of the line's output.
 pub start_begun : (at : ℕ) (device : Option (List ℕ)) (e : Event) (given : Answer) (past : History) (office mid : Office ListBooks) (maps : Maps)
     (connected : Bool) (o o' : Option (List ℕ)) → Replied past at e (Ok given) office mid → GotPart (reply_text past at e (Ok given)) o o'
     → StartBegins at device e past office maps connected o o'
@@ -279,8 +279,8 @@ start_begun at device e given past office mid maps connected o o' replied got =
     } in
     inr (text, (tt, next, prints), part_of_longer o o' (reply_text past at e (Ok given)) (codes "ok\n") got)
 
--- Suppose that the reply to a line that starts Modbus reads was written, but the output for the
--- responses only in part. Then the writer received a beginning of the line's output.
+-- Suppose that the reply to a script line that starts Modbus reads was written, but the output for
+-- the responses only in part. Then the writer received a beginning of the line's output.
 start_broken : (at : ℕ) (device : Option (List ℕ)) (e : Event) (given : Answer) (past : History) (office mid : Office ListBooks) (maps maps' : Maps)
     (connected : Bool) (o m o' : Option (List ℕ)) → Replied past at e (Ok given) office mid → Appends o m (reply_text past at e (Ok given))
     → Exchanged maps maps'
@@ -302,7 +302,7 @@ start_broken at device e given past office mid maps maps' connected o m o' repli
     } in
     inr (text, (tt, end, prints), part_after o m o' (reply_text past at e (Ok given)) printed appended got)
 
--- Suppose that a line starts Modbus reads. If the reply to the line and the output for the
+-- Suppose that a script line starts Modbus reads. If the reply to the line and the output for the
 -- responses were both written, then the line was executed.
 pub started : (at : ℕ) (device : Option (List ℕ)) (e : Event) (given : Answer) (office mid office' : Office ListBooks) (maps maps' : Maps)
     (connected : Bool) (o m o' : Option (List ℕ)) (r : Result (Unit {0}) Error)

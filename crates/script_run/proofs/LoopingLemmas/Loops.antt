@@ -1,4 +1,4 @@
--- Lemmas on executing the lines of a script with simulated devices in order.
+-- Lemmas: the output of a script with simulated devices is the output of its lines in order.
 use Rattle.std.proofs.Common.{◌≡◌, ◌⊎◌, inl, inr, ℕ, Bool, false, Option, ap, ◌∙◌, List, [], ◌∷◌, ◌++◌, refl, sym, subst, append_assoc, append-nil, arith, ◌<◌, ◌≤◌, length}
 use Rattle.std.specs.Io.KnownBytes.{Appends}
 use Rattle.std.proofs.KnownBytes.{Appends-nil, Appends-trans}
@@ -29,14 +29,14 @@ use Rattle.script_run.specs.Replaying.Scripts.{no_office}
 use Rattle.script_run.specs.Replaying.TextRun.{Writes}
 use Rattle.sun_points.specs.Writing.{GotPart}
 
--- Loop invariant: the output of all lines is the output so far, followed by the output of the
--- remaining lines. The same holds if the run is interrupted.
+-- Loop invariant: the output of all script lines is the output so far, followed by the output of
+-- the remaining lines. This is also true for the output of an interrupted run.
 pub record SoFar (begin : LoopStage) (all : List Line) (now : LoopStage) (lines : List Line) (printed : List ℕ) : Type 0 where
   pub prints : (rest : List ℕ) (status : ExitStatus) → LoopPrints now lines rest status → LoopPrints begin all (printed ++ rest) status
   pub begins : (part : List ℕ) → LoopBegins now lines part → LoopBegins begin all (printed ++ part)
 
--- States that all lines of a script before `lines` were executed and their output was written.
--- `here` is the script's state after them.
+-- States that all lines of a script (a text of commands, events and queries) before `lines` were
+-- executed and their output was written. `here` is the script's state after them.
 pub record Ran (begin : LoopStage) (all lines : List Line) (output : Option (List ℕ)) (here : LoopState) : Type 0 where
   pub printed : List ℕ
   pub past : History
@@ -118,8 +118,8 @@ stopped Failed past all lines left bad from here m o' at wrong (part, unwritten,
       (inr (bad_line bad.number, (unwritten, whole), inl (wrong.0, refl))),
 )
 
--- If a failed write interrupts a line, then the run of the script ends, and the writer received a
--- beginning of the script's output.
+-- If a failed write interrupts the output of a script line, then the run of the script (a text of
+-- commands, events and queries) ends. The writer received a beginning of the script's output.
 pub broken : (past : History) (all lines left : List Line) (first : Line) (from here : LoopState) (o' : Option (List ℕ))
     → lines ≡ first ∷ left → (ran : Ran (stage_on past from) all lines from.output here)
     → Begins (λ printed. (next : LoopStage) × WordsPrint (words_of first.text) (stage_on ran.past here) printed next) here.output o'
@@ -135,8 +135,8 @@ broken past all lines left first from here o' at ran (inr (printed, (next, print
   begun_line (stage_on past from) all lines left first from.output here part at ran (inr (printed, (unwritten, whole), inr (next, prints))),
 )
 
--- If all lines of a script are run, first with an empty store and a simulator without addresses,
--- the specification of a run is satisfied.
+-- If all lines of a script are run, starting with an empty store and a simulator without addresses,
+-- then the run satisfies its specification.
 pub text_from : (status : ExitStatus) (zone : Zone) (past : History) (text : List ℕ) (office : Office ListBooks) (maps : Maps) (o o' : Option (List ℕ))
     → AreUnset maps → stage_of past office ≡ beginning zone → Stands ledger_of past office → LinesRun status text (loop_state office maps false o) o'
     → TextRuns zone text status o o'
@@ -164,8 +164,8 @@ not_opened Failed why zone text o o' is (part, unwritten, whole, written) =
 pub nothing_run : (zone : Zone) (text : List ℕ) (o : Option (List ℕ)) → TextRuns zone text Failed o o
 nothing_run zone text o = ([], Appends-nil o, inl (no_office, refl))
 
--- If an input is not longer than the limit, then the output of its lines is the output for the
--- input.
+-- If a script's input has at most `most_bytes` bytes (the greatest length that is executed), the
+-- output for the input is the output of its lines.
 short_prints : (zone : Zone) (input printed : List ℕ) (status : ExitStatus) → length input ≤ most_bytes → TextPrints zone input printed status
     → InputPrints zone input printed status
 short_prints zone input printed status short prints =
@@ -187,8 +187,9 @@ text_ran zone text input status o o' same short runs =
 none_begun : (zone : Zone) (input : List ℕ) → InputBegins zone input []
 none_begun zone input = record { long = λ long. (too_long, refl); text = λ short. inl (no_office, refl) }
 
--- If the input of a run is too long, the run prints `too long`. If reading the input fails, the run
--- fails. In both cases the specification of a run is satisfied.
+-- Suppose that the input of a script run (an execution of command lines) is too long, and the run
+-- prints `too long`; or that reading the input fails, and the run fails. Then the run satisfies its
+-- specification `InputRuns`.
 pub unread_ran : (zone : Zone) (input : List ℕ) (status : ExitStatus) (o o' : Option (List ℕ)) → EndsUnread input status o o'
     → InputRuns zone input status o o'
 unread_ran zone input Fine o o' (inl long) = absurd long.1

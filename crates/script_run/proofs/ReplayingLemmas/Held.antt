@@ -1,5 +1,6 @@
--- Lemmas on the output of a script (a text of commands, events and queries). The output is written
--- to a buffer, which passes it on to an inner writer.
+-- Lemmas on a script (a text of commands, events and queries) whose output is written to a buffer.
+-- After a successful flush, the inner writer has received the complete output, otherwise a
+-- beginning of it.
 use Rattle.std.proofs.Common.{◌≡◌, ℕ, Option, Some, None, List, [], ◌++◌, refl, sym, ap, ◌∙◌, append_assoc, append-nil}
 use Rattle.std.specs.Io.KnownBytes.{Appends, Keeps, append_known}
 use Rattle.command_io.specs.declared.status.ExitStatus.{ExitStatus}
@@ -8,7 +9,8 @@ use Rattle.interval_core.specs.declared.zone.Zone.{Zone}
 use Rattle.script_run.specs.Replaying.TextRun.{HoldsPart, InputRuns, Replays}
 use Rattle.script_run.proofs.ReplayingLemmas.Scripts.{input_begun}
 
--- If the buffer is empty at the end of a run, then the inner writer received the complete text.
+-- If a script's run leaves no bytes in the output buffer, then the writer that gets the buffer's
+-- bytes received the complete text.
 pub given_out : (a b d : Option (List ℕ)) (buffered last text : List ℕ) → Appends a (append_known b buffered) text
     → Keeps (append_known b buffered) (append_known d last) → last ≡ [] → Appends a d text
 given_out None b d buffered last text wrote kept none = tt
@@ -18,7 +20,7 @@ given_out (Some x) (Some y) (Some z) buffered last text wrote kept none =
     sym (append-nil z) ∙ sym (ap (λ (more : List ℕ). z ++ more) none) ∙ kept ∙ wrote
 
 -- If a text was written to the buffer, then the inner writer received a beginning of the text. The
--- rest may still be in the buffer.
+-- other bytes of the text may still be in the buffer.
 pub buffered_part : (a b d : Option (List ℕ)) (buffered last text : List ℕ) → Appends a (append_known b buffered) text
     → Keeps (append_known b buffered) (append_known d last) → HoldsPart a d text
 buffered_part None b d buffered last text wrote kept = tt
@@ -32,8 +34,8 @@ from_empty (Some x) None buffered text none wrote = absurd wrote
 from_empty (Some x) (Some y) buffered text none wrote =
     wrote ∙ ap (λ (front : List ℕ). front ++ text) (ap (λ (more : List ℕ). x ++ more) none ∙ append-nil x)
 
--- If the buffer was flushed after a run, then the inner writer received the complete output of the
--- run.
+-- If the output buffer was flushed after a script was run, then the inner writer (which gets the
+-- buffer's bytes) received the complete output of the run.
 pub run_whole : (zone : Zone) (input : List ℕ) (status : ExitStatus) (a b d : Option (List ℕ)) (first buffered last : List ℕ) → first ≡ []
     → InputRuns zone input status (append_known a first) (append_known b buffered) → Keeps (append_known b buffered) (append_known d last)
     → last ≡ [] → Replays zone input status a d

@@ -1,4 +1,5 @@
--- Lemmas on the replies of the program, with a store in memory, to the events of a script.
+-- Lemmas: with a store in memory, the program's replies to the events of a script (a text of timed
+-- commands) are those that the script's specification allows.
 use Rattle.std.proofs.Common.{◌≡◌, ◌⊎◌, ◌+◌, inl, inr, ℕ, Bool, false, Option, List, refl, sym, ap, ◌∙◌}
 use Rattle.std.specs.Prelude.{min, Result, Ok, Err}
 use Rattle.std.specs.declared.io.Error.{Error}
@@ -65,7 +66,7 @@ right_or_fails takes_memory before after reply right none still (inl h) = inl h.
 right_or_fails takes_memory before after reply right none still (inr h) = inr (fails_in_memory takes_memory before after reply none still h)
 
 -- If the program replied to an event, and the reply was written to the output, then the event's
--- script line was executed. If only a part was written, the line was interrupted.
+-- script line was executed. If only a part of the reply was written, the line was interrupted.
 pub replied : (past : History) (at : ℕ) (e : Event) (office office' : Office ListBooks) (reply : Result Answer Refusal)
     (result : Result (Unit {0}) Error) (o o' : Option (List ℕ)) → IsAnswer past at e (failures_of ledger_of office) (failures_of ledger_of office') reply → Ends ledger_of office office' e reply
     → (is_stopped office ≡ false → SettlesNothing past at e → IsQuiet office office' reply)
@@ -88,8 +89,8 @@ replied past at e office office' reply result o o' answer ends quiet stands got 
   stands = stands;
 }
 
--- If a line was executed according to the specification `P`, then it was also executed according to
--- every weaker specification `Q`.
+-- If a script line was executed according to the specification `P`, then it was also executed
+-- according to every weaker specification `Q`.
 pub carried_as : (P Q : Stage → List ℕ → Stage → Type 0) (past : History) (office office' : Office ListBooks)
     (result : Result (Unit {0}) Error) (o o' : Option (List ℕ))
     → ((now : Stage) (printed : List ℕ) (next : Stage) → P now printed next → Q now printed next)
@@ -102,8 +103,8 @@ carried_as P Q past office office' result o o' turn done = record {
   stands = done.stands;
 }
 
--- Suppose that a line's specification allows printing a certain text without a change of the state.
--- If the line only prints this text, it is executed correctly.
+-- Suppose that a script line's specification allows printing a certain text without a change of the
+-- state. If the line only prints this text, it is executed as its specification requires.
 pub nothing_done : (P : Stage → List ℕ → Stage → Type 0) (past : History) (office : Office ListBooks) (printed : List ℕ)
     (result : Result (Unit {0}) Error) (o o' : Option (List ℕ)) → P (stage_of past office) printed (stage_of past office)
     → Stands ledger_of past office → GotText result printed o o' → IsCarriedOut P past office office result o o'

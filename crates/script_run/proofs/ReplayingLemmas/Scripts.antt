@@ -1,4 +1,5 @@
--- Lemmas on executing the lines of a script (a text of commands, events and queries) in order.
+-- Lemmas: the output of a script (a text of commands, events and queries) is the output of its
+-- lines in order.
 use Rattle.std.proofs.Common.{◌≡◌, ◌⊎◌, inl, inr, ℕ, Bool, false, Option, None, Some, List, [], ◌∷◌, ◌++◌, refl, sym, subst, append_assoc, append-nil, ap, ◌∙◌, arith}
 use Rattle.std.proofs.lemmas.List.Elements.{All-cons, All-nil}
 use Rattle.std.specs.Io.KnownBytes.{Appends}
@@ -33,8 +34,8 @@ use Rattle.script_run.specs.Replaying.TextRun.{InputRuns, LineRan, LineRuns, May
 use Rattle.script_run.specs.Replaying.Scripts.{ReplayBegins, ReplayPrints, ScriptBegins, ScriptPrints, TextBegins, TextPrints}
 use Rattle.script_run.specs.Replaying.Stages.{Fails, Stage, beginning}
 
--- Loop invariant: the output of all lines is the output so far, followed by the output of the
--- remaining lines. The same holds if the run is interrupted.
+-- Loop invariant: the output of all script lines is the output so far, followed by the output of
+-- the remaining lines. This is also true for the output of an interrupted run.
 pub record SoFar (zone : Zone) (all : List Line) (now : Stage) (lines : List Line) (printed : List ℕ) : Type 0 where
   pub prints : (rest : List ℕ) (status : ExitStatus) → ScriptPrints now lines rest status
       → ScriptPrints (beginning zone) all (printed ++ rest) status
@@ -92,7 +93,7 @@ from_start zone all lines now same at = record {
       (subst (λ (stage : Stage). ScriptBegins stage lines rest) at more);
 }
 
--- An empty store matches the history without any accepted event.
+-- An empty store has the records of the history without any accepted event: none.
 pub empty_books : (books : ListBooks) → AreListed books [] → BooksStand (ledger_of books) []
 empty_books books listed = record {
   is_past = record { accepted = tt; planned = tt };
@@ -100,7 +101,8 @@ empty_books books listed = record {
   leaves = record { left = [] ∷ []; may = inl listed; each = All-cons (MayBeLeft []) [] [] (inl refl) (All-nil (MayBeLeft [])) };
 }
 
--- With a store in memory, a failure other than `Stopped` is `Memory` (out of memory).
+-- With a store in memory, a failure other than `Stopped` (an earlier failure stopped the program)
+-- is `Memory` (out of memory).
 memory_alone : (why : Refusal) → IsNotStopped why → Fails {T = Unit {0}} (Err why) → why ≡ refusal.Memory
 memory_alone refusal.NotFound goes fails = absurd fails
 memory_alone refusal.Exists goes fails = absurd fails
@@ -130,8 +132,8 @@ refused_for_memory why old new before after goes not_opened = memory_alone why g
     fails_for (inl refused) = absurd (let e : None ≡ Some why = refused.0 in cc)
     fails_for (inr outside) = fails_in_memory {T = Unit {0}} (opening_refusal_of (facts_of []) 0 ≡ None) old.failures new.failures (Err why) before after outside
 
--- If a line returns an exit status, then the run of the script ends with this status. The output
--- consists of the output of the earlier lines and that of this line.
+-- If the execution of a script line returns an exit status, then the run of the script ends with
+-- this status. The run's output is that of the earlier lines, followed by that of this line.
 pub stopped_by : (zone : Zone) (text : List ℕ) (past : History) (line : Line) (office office' : Office ListBooks) (status : ExitStatus)
     (lines left : List Line) (printed : List ℕ) (o m o' : Option (List ℕ)) → Appends o m printed → lines ≡ line ∷ left
     → SoFar zone (speaking_lines text) (stage_of past office) lines printed → LineRuns past line office office' (Err status) m o'
@@ -212,8 +214,8 @@ nothing_written zone input o o' none = (
   record { long = λ long. (too_long, refl); text = λ short. inr (nothing_begins (beginning zone) (speaking_lines input)) },
 )
 
--- If an input is not longer than the limit, then the output of its lines is the output for the
--- input.
+-- If an input is not longer than the length limit, then the output of its lines is the output for
+-- the input.
 short_prints : (zone : Zone) (input printed : List ℕ) (status : ExitStatus) → length input ≤ most_bytes → TextPrints zone input printed status
     → ReplayPrints zone input printed status
 short_prints zone input printed status short prints =

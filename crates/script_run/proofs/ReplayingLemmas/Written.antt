@@ -1,4 +1,5 @@
--- Lemmas on the text of a query's rows, and on the last line that a script prints after these rows.
+-- Lemmas that a writer received the text of a query's rows and the last line that a script prints
+-- after them. If a write failed, it received a beginning of this text.
 use Rattle.std.proofs.Common.{◌≡◌, ◌+◌, ◌≤◌, ℕ, true, false, Option, List, ◌++◌, length, sym, ap, subst, ◌∙◌, arith}
 use Rattle.std.specs.List.{flat_map}
 use Rattle.std.specs.Io.KnownBytes.{Appends}

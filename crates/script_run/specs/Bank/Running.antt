@@ -51,7 +51,8 @@ LineRuns now line (Err Refused) next output output' =
 LineRuns now line (Err Failed) next output output' =
     Writes (λ part. LineBegins now line part) output output'
 
--- States that all setup lines of a text were executed, or that one of them ended the run.
+-- States that all setup lines for a simulated device in a text were executed, or that execution
+-- ended early at one of them. In that case the exit status is `Refused` or `Failed`.
 abbrev pub TextRuns : Setting → (text : List ℕ) → Result (Unit {0}) ExitStatus → Setting
     → (output output' : Option (List ℕ)) → Type 0
 TextRuns now text (Ok done) next output output' =
@@ -62,8 +63,8 @@ TextRuns now text (Err Refused) next output output' =
 TextRuns now text (Err Failed) next output output' =
     Writes (λ part. SetUpBegins now (speaking_lines text) part) output output'
 
--- States the result of executing a complete input. Before the first line, the simulated device has
--- no addresses and no injected faults.
+-- States the result of executing a complete input of setup lines for a simulated device. Before the
+-- first line, the device has no addresses and no injected faults.
 pub record InputRuns (input : List ℕ) (ended : Result Setting ExitStatus)
     (output output' : Option (List ℕ)) : Type 0 where
   pub begun : Setting
@@ -77,8 +78,8 @@ pub record InputBreaks (input : List ℕ) (output output' : Option (List ℕ)) :
   pub unset : IsUnset begun
   pub writes : Writes (λ part. InputBegins begun input part) output output'
 
--- States the result of setting up a simulated device from an input. A failed run wrote at most a
--- beginning of its output.
+-- States the result of setting up a simulated device from the lines of an input. A failed run wrote
+-- at most a beginning of its output.
 abbrev pub SetUp : (input : Option (List ℕ)) → Result Setting ExitStatus
     → (output output' : Option (List ℕ)) → Type 0
 SetUp input (Ok setup) output output' =

@@ -65,11 +65,11 @@ with_cell maps cell =
     then with_table maps cell.kind
     (written (table_of maps cell.kind) cell.address (kept cell.kind cell.value)) else maps
 
--- The configuration of a simulated device after a line that adds a range of addresses.
+-- The configuration of a simulated device after a setup line that adds a range of addresses.
 abbrev pub after_area : Setting → GivenArea → Setting
 after_area now area = record { maps = with_area now.maps area; tricks = now.tricks }
 
--- The configuration of a simulated device after a line that sets the value at an address.
+-- The configuration of a simulated device after a setup line that sets the value at an address.
 abbrev pub after_cell : Setting → GivenCell → Setting
 after_cell now cell = record { maps = with_cell now.maps cell; tricks = now.tricks }
 
@@ -77,8 +77,9 @@ after_cell now cell = record { maps = with_cell now.maps cell; tricks = now.tric
 abbrev pub with_trick : Setting → ℕ → Trick → Setting
 with_trick now frame trick = record { maps = now.maps; tricks = now.tricks ++ (frame, trick) ∷ [] }
 
--- True if the register map accepts a setup line of a simulated device. Lines that inject faults are
--- always accepted.
+-- True if the register map accepts a setup line of a simulated device. A new address range must be
+-- valid and must not overlap others. A value must have 16 bits and an existing address. Lines that
+-- inject faults are always accepted.
 abbrev pub takes : Maps → BankLine → Bool
 takes maps (line.Area area) = takes_area maps area
 takes maps (line.Set cell) = takes_cell maps cell

@@ -53,8 +53,8 @@ SetUpBegins now (first ∷ lines) part =
     × ((rest : List ℕ) × (part ≡ taken_text (takes now.maps said) ++ rest)
     × SetUpBegins (after_line now said) lines rest))
 
--- States the configuration and the output after running an input. If the input is too long, none of
--- its lines is executed.
+-- States the configuration of a simulated device and the output after an input of setup lines was
+-- executed. If the input is too long, none of its lines is executed.
 pub record InputSetsUp (now : Setting) (input printed : List ℕ)
     (ended : Result Setting ExitStatus) : Type 0 where
   pub long : most_bytes < length input → (printed ≡ too_long) × (ended ≡ Err Refused)

@@ -71,8 +71,8 @@ pub record StandsBy (now next : LoopStage) : Type 0 where
   pub maps : next.maps ≡ now.maps
   pub connected : next.connected ≡ now.connected
 
--- States the output of a line that starts Modbus reads. If the program accepts the start, the
--- request frames go to a simulated device, and its responses go to the program.
+-- States the output of a script line that starts Modbus reads. If the program accepts the start,
+-- the request frames go to a simulated device, and its responses go to the program.
 abbrev pub Started : Result Answer Refusal → (at : ℕ) → (device : Option (List ℕ)) → Event
     → (now : LoopStage)
     → (printed : List ℕ) → (next : LoopStage) → Type 0
@@ -84,8 +84,8 @@ Started (Err why) at device e now printed next =
     (printed ≡ refused_line why) × (next.script ≡ after_reply now.script at e (Err why))
     × (next.maps ≡ now.maps)
 
--- States the output of a line that starts Modbus reads: first the reply of the program, then the
--- output for the device's responses.
+-- States the output of a script line that starts Modbus reads: first the reply of the program, then
+-- the output for the device's responses.
 pub record StartsPrint (at : ℕ) (device : Option (List ℕ)) (e : Event) (now : LoopStage)
     (printed : List ℕ) (next : LoopStage) : Type 0 where
   pub reply : Result Answer Refusal
@@ -93,15 +93,15 @@ pub record StartsPrint (at : ℕ) (device : Option (List ℕ)) (e : Event) (now 
   pub started : Started reply at device e now printed next
   pub connected : next.connected ≡ now.connected
 
--- States the output of a line whose event uses no connection to a simulated device. The line prints
--- the reply of the program, and leaves the simulated devices unchanged.
+-- States the output of a script line whose event uses no connection to a simulated device. The line
+-- prints the reply of the program, and leaves the simulated devices unchanged.
 pub record PlainPrints (at : ℕ) (e : Event) (now : LoopStage) (printed : List ℕ) (next : LoopStage)
     : Type 0 where
   pub prints : EventPrints now.script at e printed next.script
   pub by : StandsBy now next
 
--- States the output of a line that connects a simulated device. The line prints the reply of the
--- program, and afterwards the state says that a device was connected.
+-- States the output of a script line that connects a simulated device. The line prints the reply of
+-- the program, and afterwards the state says that a device was connected.
 pub record ConnectPrints (at : ℕ) (e : Event) (now : LoopStage) (printed : List ℕ)
     (next : LoopStage)
     : Type 0 where
@@ -109,13 +109,15 @@ pub record ConnectPrints (at : ℕ) (e : Event) (now : LoopStage) (printed : Lis
   pub maps : next.maps ≡ now.maps
   pub connected : next.connected ≡ true
 
--- The name of the device whose round of reads the command starts. `None` for any other command.
+-- The name of the device whose round of reads (one for each read of the device's plan) the command
+-- starts. `None` for any other command.
 abbrev pub round_of : Command → Option (Option (List ℕ))
 round_of (command.StartRound round) = Some round.device
 round_of other = None
 
--- States the output of a line with a command: the reply of the program. If the command starts a
--- round of reads, the output for the device's responses follows.
+-- States the output of a script line with a command: the reply of the program. If the command
+-- starts a round of reads (one for each read of the device's plan), the output for the device's
+-- responses follows.
 abbrev pub CommandPrints : (round : Option (Option (List ℕ))) → (at : ℕ) → Event → (now : LoopStage)
     → (printed : List ℕ) → (next : LoopStage) → Type 0
 CommandPrints (Some device) at e now printed next = StartsPrint at device e now printed next
@@ -141,8 +143,9 @@ abbrev pub IsBytes : Event → Type 0
 IsBytes (event.Bytes device piece) = Unit {0}
 IsBytes other = ⊥
 
--- States the output of a line that starts a Modbus read: the reply to the start, and the output for
--- the response. If one read request cannot cover the Modbus registers, the output is a refusal.
+-- States the output of a script line that starts a Modbus read: the reply to the start, and the
+-- output for the response. If one read request cannot cover the Modbus registers, the output is a
+-- refusal.
 abbrev pub ReadPrints : (at : ℕ) → GivenStart → (now : LoopStage) → (printed : List ℕ)
     → (next : LoopStage) → Type 0
 ReadPrints at start now printed next =
@@ -171,12 +174,12 @@ abbrev pub SaysBytes : ScriptLine → Type 0
 SaysBytes (line.Event at e) = IsBytes e
 SaysBytes other = ⊥
 
--- States that the words form no setup line of a simulated device.
+-- States that the given words form no setup line of a simulated device.
 abbrev pub IsNoBankLine : List (List ℕ) → Type 0
 IsNoBankLine words = (said : BankLine) → IsBankLine words said → ⊥
 
--- States that the words form a setup line of a simulated device, or any other script line, and that
--- this line was executed.
+-- States that the given words form a setup line of a simulated device, or any other script line,
+-- and that this line was executed.
 abbrev pub WordsPrint : List (List ℕ) → (now : LoopStage) → (printed : List ℕ) → (next : LoopStage)
     → Type 0
 WordsPrint words now printed next =
@@ -184,8 +187,8 @@ WordsPrint words now printed next =
     ⊎ (IsNoBankLine words × (said : ScriptLine) × IsLine words said
     × SaidPrints said now printed next)
 
--- States that the words form no line, or form a line that a loop (a script with simulated devices)
--- does not allow at this position.
+-- States that the given words form no line, or form a line that a loop (a script with simulated
+-- devices) does not allow at this position.
 abbrev pub AreWrong : (connected : Bool) → List (List ℕ) → Type 0
 AreWrong connected words =
     ((said : BankLine) × IsBankLine words said × MayNotStand connected said)

@@ -40,8 +40,8 @@ abbrev pub stage_on : History → LoopState → LoopStage
 stage_on past here =
     record { script = stage_of past here.office; maps = here.maps; connected = here.connected }
 
--- States that a line printed an output that `Prints` allows. Also states that the stored records
--- match the history of accepted events after the line.
+-- States that a script line printed an output that the specification `Prints` allows. Also states
+-- that the stored records are those of the history of accepted events after the line.
 pub record CarriedOut (Prints : LoopStage → List ℕ → LoopStage → Type 0) (past : History)
     (from to : LoopState)
     : Type 0 where
@@ -51,8 +51,8 @@ pub record CarriedOut (Prints : LoopStage → List ℕ → LoopStage → Type 0)
   pub appended : Appends from.output to.output printed
   pub stands : Stands ledger_of after to.office
 
--- States the output of a call that was interrupted: nothing, or a beginning of an output that
--- `Prints` allows.
+-- States the output of a call that was interrupted: nothing, or a beginning of an output that the
+-- specification `Prints` allows.
 abbrev pub Begins : (Prints : List ℕ → Type 0) → (output output' : Option (List ℕ)) → Type 0
 Begins Prints output output' =
     Appends output output' []
@@ -69,8 +69,8 @@ CarriesOut {X = X} (Err error) Prints from to =
     → Begins (λ printed. (x : X) × (next : LoopStage) × Prints x (stage_on past from) printed next)
     from.output to.output
 
--- States that a line printed an output that `Prints` allows. The line may change the state of
--- `sunreg`, but not the simulated devices.
+-- States that a script line printed an output that the specification `Prints` allows. The line may
+-- change the state of `sunreg`, but not the simulated devices.
 pub record Carried (Prints : Stage → List ℕ → Stage → Type 0) (past : History)
     (office office' : Office ListBooks) (output output' : Option (List ℕ)) : Type 0 where
   pub printed : List ℕ

@@ -30,21 +30,22 @@ LineRuns (Err error) Prints Wrong from to =
     → Begins (λ printed. (next : LoopStage) × Prints (stage_on past from) printed next)
     from.output to.output
 
--- States the outcome of a line with the given words. The line was executed or interrupted, or the
--- words form no line that is allowed at this position.
+-- States the outcome of a script line with the given words. The line was executed or interrupted,
+-- or the words form no line that is allowed at this position.
 abbrev pub WordsRun : Result Bool Error → (words : List (List ℕ)) → (from to : LoopState) → Type 0
 WordsRun result words from to =
     LineRuns result (WordsPrint words) (AreWrong from.connected words) from to
 
--- States the outcome of a line that starts Modbus reads. Either the program refused the start, or
--- the simulator's responses were passed to the program.
+-- States the outcome of a script line that starts Modbus reads. Either the program refused the
+-- start, or the simulator's responses were passed to the program.
 abbrev pub StartRuns : {X E : Type 0} → Result X E → (at : ℕ) → (device : Option (List ℕ)) → Event
     → (from to : LoopState) → Type 0
 StartRuns result at device e from to =
     CarriesOut result (λ done now printed next. StartsPrint at device e now printed next) from to
 
--- States that a run ends with the output `text` and the given status. If the writer failed, only a
--- part of `text` was written.
+-- States that running a loop (a script with simulated devices) ends with the status `Refused` and
+-- the output `text`. With the status `Failed`, only a part of `text` was written. The status is not
+-- `Fine`.
 abbrev pub ReportsText : (text : List ℕ) → ExitStatus → (output output' : Option (List ℕ)) → Type 0
 ReportsText text Fine output output' = ⊥
 ReportsText text Refused output output' = Appends output output' text
@@ -66,8 +67,8 @@ abbrev pub TextRuns : Zone → (text : List ℕ) → ExitStatus
 TextRuns zone text status output output' =
     Writes (TextPrints zone text) (TextBegins zone text) status output output'
 
--- States the outcome of running an input as a script. The writer received the run's output, or a
--- beginning of this output if the run failed.
+-- States the outcome of running an input as a script (a text of commands, events and queries). The
+-- writer received the run's output, or a beginning of this output if the run failed.
 abbrev pub InputRuns : Zone → (input : List ℕ) → ExitStatus → (output output' : Option (List ℕ))
     → Type 0
 InputRuns zone input status output output' =

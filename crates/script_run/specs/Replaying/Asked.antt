@@ -29,7 +29,8 @@ abbrev pub row_text : {T : Type 0} → (T → List ℕ) → Result T Refusal →
 row_text row_line (Ok row) = row_line row
 row_text row_line (Err why) = refused_line why
 
--- States that a query for one row prints the line of the row or of the refusal.
+-- States that a query for one row prints the line for the row that was found, or the line for the
+-- refusal.
 pub record RowPrints {T : Type 0} (now : Stage) (found : Option T) (row_line : T → List ℕ)
     (printed : List ℕ) (next : Stage) : Type 0 where
   pub reply : Result T Refusal
@@ -80,8 +81,8 @@ IntervalsPrint now meter printed next =
     RowsPrint now (is_there (intervals_of (facts_of now.past) meter))
     (AreIntervals (facts_of now.past) meter) share_line printed next
 
--- States that, if the query succeeded, the rows are all days of an accounting register (a named
--- counter) in the script's time zone. If it failed, there are no rows.
+-- States that, if the query succeeded, the rows are the energy of an accounting register (a named
+-- counter) on each of its days, in the script's time zone. If the query failed, there are no rows.
 pub record AreDaysReported (now : Stage) (register : Option (List ℕ)) (rows : List DayTotal)
     (reply : Result (Unit {0}) Refusal) : Type 0 where
   pub whole : OnOk reply (AreDaysNamed now.zone (facts_of now.past) register (map account_of rows))

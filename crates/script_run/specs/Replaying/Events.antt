@@ -21,9 +21,9 @@ use Rattle.script_text.specs.declared.script.GivenStart.{GivenStart}
 use Rattle.script_run.specs.Replaying.Stages.{Stage, Fails, ReportsStop, after_reply}
 use Rattle.script_text.specs.AnswerText.{accepted_text, fault_line, refused_line}
 
--- States the possible replies of the program to an event: the reply that `decision_of` defines, or
--- a failure. If no earlier failure has stopped the program and the event ends no poll, then the
--- reply is not a failure.
+-- States the possible replies of the program to an event: the reply that the function `decision_of`
+-- computes from the accepted events, or a failure. If no earlier failure has stopped the program
+-- and the event ends no poll, then the reply is not a failure.
 pub record IsReply (now : Stage) (at : ℕ) (e : Event) (reply : Result Answer Refusal) : Type 0 where
   pub answer : (reply ≡ decision_of now.past at e) ⊎ Fails reply
   pub stops : ReportsStop now reply
@@ -56,7 +56,7 @@ pub record IsSpanOf (start : GivenStart) (span : ReadSpan) : Type 0 where
 abbrev pub start_event : GivenStart → ReadSpan → Event
 start_event start span = Command (StartPoll (record { device = start.device; span = span }))
 
--- States that a line that starts a Modbus read prints a refusal and changes nothing.
+-- States that a script line that starts a Modbus read prints a refusal and changes nothing.
 pub record IsRefused (now : Stage) (printed : List ℕ) (next : Stage) : Type 0 where
   pub text : printed ≡ refused_line refusal.Limit
   pub same : next ≡ now
@@ -70,7 +70,7 @@ StartPrints now at start printed next =
     × EventPrints now at (start_event start span) printed next)
     ⊎ ((IsSpan start.function start.address start.count → ⊥) × IsRefused now printed next)
 
--- The rows of a point list's CSV text that have a fault.
+-- The faulty rows of a point list's CSV text.
 abbrev pub faults_of : List ℕ → List FaultyRow
 faults_of text = list_faults (rows_read text)
 
@@ -78,21 +78,21 @@ faults_of text = list_faults (rows_read text)
 abbrev pub list_event : GivenList → Planned → Event
 list_event list planned = Command (PutList (record { device = list.device; list = planned }))
 
--- States that the text encodes the given point list, and that the list has a read plan with the
+-- States that a CSV text encodes the given point list, and that the list has a read plan with the
 -- fewest reads that cover all points.
 pub record IsListOf (text : List ℕ) (list : Planned) : Type 0 where
   pub points : SpellsList text list.points
   pub planned : IsPlanned list
 
--- States the output of a line with a faulty point list: each faulty row, and a refusal. The point
--- list is not stored.
+-- States the output of a script line with a faulty point list: each faulty row, and a refusal. The
+-- point list is not stored.
 pub record FaultsPrint (now : Stage) (text printed : List ℕ) (next : Stage) : Type 0 where
   pub some : faults_of text ≢ []
   pub lines : printed ≡ flat_map fault_line (faults_of text) ++ refused_line refusal.Limit
   pub same : next ≡ now
 
--- States the output of a line that stores a point list of a device. A faulty list prints one line
--- for each faulty row.
+-- States the output of a script line that stores a point list of a device. A faulty list prints one
+-- line for each faulty row.
 abbrev pub ListPrints : Stage → (at : ℕ) → GivenList → (printed : List ℕ) → (next : Stage) → Type 0
 ListPrints now at list printed next =
     ((planned : Planned) × IsListOf list.text planned

@@ -21,7 +21,7 @@ LinePrints now (line.Intervals name) printed next = IntervalsPrint now name prin
 LinePrints now (line.Days name) printed next = DaysPrint now name printed next
 LinePrints now (line.Poll number) printed next = PollPrints number now printed next
 
--- States that the words form a script line, and that the line was executed.
+-- States that the given words form a script line, and that the line was executed.
 pub record WordsPrint (now : Stage) (words : List (List ℕ)) (printed : List ℕ) (next : Stage)
     : Type 0 where
   pub said : ScriptLine
@@ -33,7 +33,7 @@ pub record BadPrints (bad : Line) (printed : List ℕ) : Type 0 where
   pub none : (said : ScriptLine) → IsLine (words_of bad.text) said → ⊥
   pub text : printed ≡ bad_line bad.number
 
--- States that `part` is a prefix of the text.
+-- States that `part` is a prefix of `text`.
 abbrev pub BeginsText : (part text : List ℕ) → Type 0
 BeginsText part text = (rest : List ℕ) × (text ≡ part ++ rest)
 

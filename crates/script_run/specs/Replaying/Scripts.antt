@@ -12,8 +12,8 @@ use Rattle.script_run.specs.Replaying.Lines.{BadPrints, BeginsText, LineBegins, 
 use Rattle.script_run.specs.Replaying.Stages.{Stage, beginning}
 use Rattle.script_text.specs.AnswerText.{refused_line}
 
--- States the output of the lines of a script, run in order from the given state on. A line whose
--- words form no script line ends the run.
+-- States the output of the lines of a script (a text of commands, events and queries), run in order
+-- from the given state on. A line whose words form no script line ends the run.
 abbrev pub ScriptPrints : Stage → List Line → (printed : List ℕ) → ExitStatus → Type 0
 ScriptPrints now [] printed status = (printed ≡ []) × (status ≡ Fine)
 ScriptPrints now (first ∷ lines) printed status =
@@ -54,7 +54,8 @@ pub record ReplayPrints (zone : Zone) (input printed : List ℕ) (status : ExitS
   pub long : most_bytes < length input → (status ≡ Refused) × (printed ≡ too_long)
   pub text : length input ≤ most_bytes → TextPrints zone input printed status
 
--- States that `part` is a possible output of an interrupted run of an input as a script.
+-- States that `part` is a possible beginning of the output if the program runs `input` as a script
+-- (a text of commands, events and queries) and is interrupted.
 pub record ReplayBegins (zone : Zone) (input part : List ℕ) : Type 0 where
   pub long : most_bytes < length input → BeginsText part too_long
   pub text : length input ≤ most_bytes → TextBegins zone input part

@@ -29,7 +29,8 @@ Fails (Err refusal.Memory) = Unit {0}
 Fails (Err refusal.Stopped) = Unit {0}
 Fails _ = ⊥
 
--- States that the reply is the refusal `Stopped` if and only if a failure has stopped the program.
+-- States that the program's reply to an event of a script is the refusal `Stopped` if and only if
+-- an earlier failure stopped the program.
 abbrev pub ReportsStop : {T : Type 0} → Stage → Result T Refusal → Type 0
 ReportsStop now reply = (reply ≡ Err refusal.Stopped) ↔ (now.stopped ≡ true)
 

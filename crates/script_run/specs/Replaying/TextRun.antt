@@ -19,13 +19,13 @@ use Rattle.script_text.specs.LineWords.Words.{words_of}
 use Rattle.sun_points.specs.Writing.{GotText}
 
 -- Builds the modeled state of a script's run from the history of accepted events and the running
--- program (`Office`).
+-- program (`Office`). A script is a text of commands, events and queries.
 abbrev pub stage_of : History → Office ListBooks → Stage
 stage_of past office =
     record { past = past; stopped = is_stopped office; zone = (ledger_of (books_in office)).zone }
 
--- States that a line's output was written completely, or partly if a write failed. Also states that
--- the stored records match the history of accepted events after the line.
+-- States that a script line's output was written completely, or partly if a write failed. Also
+-- states that the stored records are those of the history of accepted events after the line.
 pub record IsCarriedOut (Prints : Stage → List ℕ → Stage → Type 0) (past : History)
     (office office' : Office ListBooks) (result : Result (Unit {0}) Error)
     (output output' : Option (List ℕ)) : Type 0 where
@@ -35,8 +35,8 @@ pub record IsCarriedOut (Prints : Stage → List ℕ → Stage → Type 0) (past
   pub got : GotText result printed output output'
   pub stands : Stands ledger_of after office'
 
--- States that a line was executed as `IsCarriedOut` requires, or that memory ran out before any
--- output.
+-- States that a script line was executed as `IsCarriedOut` requires (its output was written, and
+-- the state follows from the line), or that memory ran out before any output.
 abbrev pub MayCarryOut : (Stage → List ℕ → Stage → Type 0) → History
     → (office office' : Office ListBooks) → Result (Unit {0}) Error
     → (output output' : Option (List ℕ)) → Type 0
@@ -44,8 +44,8 @@ MayCarryOut Prints past office office' result output output' =
     IsCarriedOut Prints past office office' result output output'
     ⊎ (IsErr result × Appends output output' [])
 
--- States that, if the stored records match a history of accepted events, the call executed its
--- script line as `IsCarriedOut` requires for this history.
+-- States that, if the stored records are those of a history of accepted events, the call executed
+-- its script line as the contract `IsCarriedOut` requires for this history.
 abbrev pub CarriesOut : (Stage → List ℕ → Stage → Type 0) → (office office' : Office ListBooks)
     → Result (Unit {0}) Error → (output output' : Option (List ℕ)) → Type 0
 CarriesOut Prints office office' result output output' =
@@ -74,8 +74,8 @@ LineRuns past line office office' (Err Refused) output output' =
 LineRuns past line office office' (Err Failed) output output' =
     (part : List ℕ) × Appends output output' part × LineBegins (stage_of past office) line part
 
--- States that the writer received the complete output of a run, or, if the run failed, a beginning
--- of the output.
+-- States that the writer received the complete output that `Prints` allows for a script's run. If
+-- the run failed, it received a beginning of such an output (`Begins`).
 abbrev pub Writes : (Prints : List ℕ → ExitStatus → Type 0) → (Begins : List ℕ → Type 0)
     → ExitStatus → (output output' : Option (List ℕ)) → Type 0
 Writes Prints Begins Fine output output' =
@@ -106,8 +106,8 @@ HoldsPart None new text = ⊤
 HoldsPart (Some buffered) None text = ⊥
 HoldsPart (Some buffered) (Some holds) text = (rest : List ℕ) × (buffered ++ text ≡ holds ++ rest)
 
--- States that the caller's writer received the complete output of a run, or, if the run failed, a
--- beginning of the output.
+-- States that the caller's writer received the complete output of a script's run (the execution of
+-- its lines). If the run failed, the writer received a beginning of the output.
 abbrev pub Replays : Zone → (input : List ℕ) → ExitStatus
     → (output output' : Option (List ℕ)) → Type 0
 Replays zone input Failed output output' =

@@ -115,8 +115,8 @@ fn run_bank_line<L: Link + Drop, W: Write>(
     Ok(true)
 }
 
-// Executes a script line with simulated devices. Returns false for a line with bytes of a device,
-// because only the simulated devices may send bytes.
+// Executes a script line with simulated devices. Returns false for a line with bytes that a device
+// sends, because only the simulated devices may send bytes.
 fn run_script_line<C: Connects, W: Write>(
     alloc: Global,
     run: &mut Run<'_, C::End>,
@@ -168,8 +168,8 @@ fn execute_as_script<L: Link + Drop, W: Write>(
     carry_out(alloc, &mut run.office, said, output)
 }
 
-// Executes an event of a script with simulated devices. Returns false for an event with bytes of a
-// device, because only the simulated devices may send bytes.
+// Executes an event of a script with simulated devices. Returns false for an event with bytes that
+// a device sends, because only the simulated devices may send bytes.
 fn run_event<C: Connects, W: Write>(
     alloc: Global,
     run: &mut Run<'_, C::End>,
@@ -215,8 +215,8 @@ fn run_event<C: Connects, W: Write>(
     }
 }
 
-// Returns the name of the device for which a command starts a round of reads, or `None` for any
-// other command.
+// Returns the name of the device for which a command starts a round of reads (one for each read of
+// the device's plan), or `None` for any other command.
 fn round_of(command: &Command) -> Option<Option<Name>>
     ensures { result ≡ form.round_of command.now }
 {
@@ -237,7 +237,7 @@ fn round_of(command: &Command) -> Option<Option<Name>>
 }
 
 // Executes a command of a script with simulated devices. A command that starts a round of reads
-// also exchanges frames with the simulated device.
+// (one for each read of the device's plan) also exchanges frames with the simulated device.
 fn run_command<L: Link + Drop, W: Write>(
     alloc: Global,
     run: &mut Run<'_, L>,

@@ -77,8 +77,8 @@ fn feed_responses<L: Link + Drop, W: Write>(
     }
 }
 
-/// Connects a device: passes the event to the program (`Office`), and opens a connection to the
-/// simulator.
+/// Connects a device: passes the event to the program (`Office`), and opens a connection from the
+/// program to the simulator.
 pub(crate) fn connect<C: Connects, W: Write>(
     office: &mut Office<ListBooks>,
     wires: &mut Wires<'_, C::End>,

@@ -21,14 +21,18 @@ use std::io::{Read, Write};
 /// Runs a script with a store in memory. All devices of the script are one simulator in this
 /// process.
 ///
-/// `loop_text` executes lines as [`replay`](crate::replay) does, with these differences:
+/// The function `loop_text` executes script lines as [`replay`](crate::replay) does without
+/// simulated devices, with these differences:
 ///
 /// - Lines that set up the simulator may come between script lines. They print `ok`, or `refused
-///   12` if the register map refuses them. `area` and `trick` must precede the first `connect`.
-/// - A line that connects a device also opens a connection to the simulator.
-/// - A line that starts reads sends their frames to the simulator, and passes the responses to the
-///   program at once. The notifications and `ok` follow the line `started`.
-/// - A line with the bytes of a device is a bad line.
+///   12` if the register map refuses them. The lines `area` (addresses) and `trick` (an injected
+///   fault) must precede the first line `connect`.
+/// - A script line `connect`, which reports that a device is connected, also opens a connection
+///   from the program to the simulator.
+/// - A script line that starts Modbus reads sends the request frames to the simulator, and passes
+///   the responses to the program at once. The notifications and `ok` follow the line `started`.
+/// - A script line with bytes that a device sends is a bad line: it prints `bad line N` and ends
+///   the run.
 pub fn loop_text<R: Read, C: Connects, W: Write>(
     alloc: Global,
     zone: Zone,

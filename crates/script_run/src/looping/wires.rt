@@ -8,8 +8,8 @@ use office_events::Name;
 use std::alloc::{AllocError, Global};
 use std::io;
 
-/// The maximum number of reads from a device's connection after a line that starts Modbus reads. It
-/// is also the maximum number of reads by the simulator for such a line.
+/// The maximum number of reads from a device's connection after a script line that starts Modbus
+/// reads. It is also the maximum number of reads by the simulator for such a line.
 pub(crate) const MOST_TAKES: u32 = 100_000;
 
 /// The two ends of a connection: `near` is the program's end, and `far` the simulator's end. Each
@@ -79,7 +79,7 @@ fn answer<L: Link>(server: &mut Server<'_>, far: &mut L, count: u64, bank: &mut 
 
 impl<'t, L: Link + Drop> Wire<'t, L> {
     // Sends request frames to the simulator, and lets it answer `count` frames. If sending fails or
-    // the simulator closes the connection, drops the simulator's end.
+    // the simulator closes the connection, drops the simulator's end of the connection.
     fn send(&mut self, frames: &[u8], count: u64, bank: &mut Bank)
         ensures { Exchanged bank.old bank.new }
     {
@@ -136,7 +136,8 @@ impl<'t, L: Link + Drop> Wires<'t, L> {
         self.all.iter().position(|wire| wire.device == *device)
     }
 
-    /// Returns the program's end of the connection with the given index.
+    /// Returns the program's end (not the simulator's) of the connection to the simulated device
+    /// with the index `place`.
     pub(crate) fn near(&mut self, place: usize) -> &mut L
         requires { place < length self.old.all.items }
     {

@@ -86,7 +86,7 @@ pub(crate) fn feed_list<W: Write>(
     }
 }
 
-// Prints one line for each faulty row of a point list, and then a refusal.
+// Prints one line for each faulty row of a point list, and then the line of the refusal `Limit`.
 fn refuse_list<W: Write>(rows: &[FaultyRow], output: &mut W) -> io::Result<()>
     ensures { GotText result (flat_map text.fault_line rows.now ++ text.refused_line refusal.Limit)
         (W.contents output.old) (W.contents output.new) }

@@ -9,21 +9,21 @@ use interval_core::Zone;
 use std::alloc::Global;
 use std::io::{Read, Write};
 
-/// The exit status of a run, and the writer with the run's output.
+/// The exit status of a script's run, and the writer with the run's output.
 #[derive(Drop)]
 pub struct Replayed<W> {
     pub status: ExitStatus,
     pub output: W,
 }
 
-/// Runs a script with a store in memory, and prints the output of each line. Timestamps begin at 0,
-/// and days are civil days in `zone`.
+/// Runs a script (a text of commands, events and queries) with a store in memory, and prints the
+/// output of each line. Timestamps begin at 0, and days are civil days in `zone`.
 ///
-/// The script continues after `refused N`. A malformed line prints `bad line N` and ends the run.
-/// An input of more than 4,194,304 bytes prints only `too long`.
+/// A script continues after a refusal, which prints `refused N`. A malformed line prints `bad line
+/// N` and ends the script. An input of more than 4,194,304 bytes prints only `too long`.
 ///
-/// The complete input is read before the first line is executed. Output is written in chunks of
-/// about 8 KiB, and at the end of the run.
+/// The complete input of a script is read before its first line is executed. Output is written in
+/// chunks of about 8 KiB, and at the end of the script.
 pub fn replay<R: Read, W: Write>(alloc: Global, zone: Zone, input: &mut R, output: W) -> Replayed<W>
     ensures { IfSome (R.remaining input.old)
         (λ all. Replays zone all result.status (W.contents output) (W.contents result.output)) }

@@ -1,5 +1,5 @@
--- Proofs that the parser returns a setup line of a simulated device if and only if the words spell
--- this setup line.
+-- Proofs that the parser returns a setup line of a simulated device if and only if the given words
+-- spell this setup line.
 use Rattle.std.proofs.Common.{◌≡◌, inl, inr, ℕ, ◌≤◌, true, List, [], ◌∷◌, Some, None, Option, refl, sym, ◌∙◌, subst, arith}
 use Rattle.std.specs.Prelude.{codes, nat_le}
 use Rattle.std.specs.Str.{bytes_eq}
@@ -130,8 +130,8 @@ read_form (word ∷ words) said h =
           ]
     ]
 
--- The next lemmas prove for each kind of setup line of a simulated device: if the words spell the
--- line's fields, then the parser returns the line.
+-- The next lemmas prove for each kind of setup line of a simulated device: if the given words spell
+-- the line's fields, then the parser returns the line.
 
 kind_known : (k : Kind) → kind_of (kind_word k) ≡ Some k
 kind_known kind.Coil = refl

@@ -25,14 +25,14 @@ kinds =
 abbrev pub kind_of : List ℕ → Option Kind
 kind_of word = meaning_in kinds word
 
--- The two numbers that the words spell. `None` if the words are not exactly two numbers.
+-- The two numbers that the given words spell. `None` if the words are not exactly two numbers.
 abbrev pub two_said : List (List ℕ) → Option (ℕ × ℕ)
 two_said words =
     first_value Number words >>= λ a. first_value Number a.1 >>= λ b. end_of_words b.1 >>= λ none.
     Some (a.0, b.0)
 
--- The kind of Modbus addresses and the two numbers that the words spell. `None` if the words are
--- not exactly a kind and two numbers.
+-- The kind of Modbus addresses and the two numbers that the given words spell. `None` if the words
+-- are not exactly a kind and two numbers.
 abbrev pub three_said : List (List ℕ) → Option (Kind × ℕ × ℕ)
 three_said [] = None
 three_said (word ∷ words) =
@@ -61,8 +61,8 @@ cut_said words =
     first_value Number words >>= λ count. end_of_words count.1 >>= λ none. if nat_le count.0 259
     then Some (trick.Cut count.0) else None
 
--- The injected fault of a simulated device that the words spell: the fault's name, or `cut` and a
--- number of bytes. `None` for other words.
+-- The injected fault of a simulated device that the given words spell: the fault's name, or `cut`
+-- and a number of bytes. `None` for other words.
 abbrev pub trick_said : List (List ℕ) → Option Trick
 trick_said [] = None
 trick_said (word ∷ words) =
@@ -86,8 +86,8 @@ abbrev pub set_said : List (List ℕ) → Option BankLine
 set_said words =
     three_said words >>= λ v. Some (line.Set (record { kind = v.0; address = v.1; value = v.2 }))
 
--- The setup line of a simulated device that the words spell, or `None` if the words spell no setup
--- line.
+-- The setup line of a simulated device that the given words spell, or `None` if the words spell no
+-- setup line.
 abbrev pub bank_said : List (List ℕ) → Option BankLine
 bank_said [] = None
 bank_said (word ∷ words) =

@@ -36,8 +36,8 @@ bank_form (line.Set cell) =
     ∷ []
 bank_form (line.Trick frame trick) = Word (codes "trick") ∷ Of Number frame ∷ trick_form trick
 
--- States that if the injected fault cuts a response, it keeps at most 259 bytes, fewer than the
--- longest Modbus TCP frame has. States nothing for other faults.
+-- States that an injected fault that cuts a response keeps at most 259 bytes of the response, fewer
+-- than the longest Modbus TCP frame has. States nothing for other faults.
 abbrev pub IsPart : Trick → Type 0
 IsPart (trick.Cut count) = count ≤ 259
 IsPart trick = Unit {0}
@@ -48,8 +48,8 @@ abbrev pub CanBe : BankLine → Type 0
 CanBe (line.Trick frame trick) = IsPart trick
 CanBe line = Unit {0}
 
--- States that the words spell the given setup line of a simulated device. If the line injects a
--- fault, the fault is within its limit.
+-- States that the given words spell the given setup line of a simulated device. If the line injects
+-- a fault that cuts a response, at most 259 bytes of the response are kept.
 pub record IsBankLine (words : List (List ℕ)) (line : BankLine) : Type 0 where
   pub form : Spell words (bank_form line)
   pub can : CanBe line

@@ -7,7 +7,8 @@ use Rattle.script_text.specs.LineWords.Values.{bytes_of, name_of, number_of, sca
 
 -- The kind of value that a word of a script line spells.
 pub data Kind : Type 0 where
-  -- The kind of a word that is a name. The value is `None` if the word is not a valid name.
+  -- The kind of a word that is a name. The value is `None` if the word is not a valid name (1 to 16
+  -- ASCII letters, digits, `_` or `-`, with a letter first).
   AnyName : Kind
   Number : Kind
   Signed : Kind
@@ -16,7 +17,7 @@ pub data Kind : Type 0 where
   Range : Kind
   Moment : Kind
 
--- The type of the value that a word of each kind spells.
+-- The type of the value that a word of the given kind spells.
 abbrev pub Value : Kind → Type 0
 Value AnyName = Option (List ℕ)
 Value Number = ℕ

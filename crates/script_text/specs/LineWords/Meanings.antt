@@ -9,7 +9,8 @@ meaning_in [] word = None
 meaning_in (entry ∷ table) word =
     if bytes_eq entry.0 word then Some entry.1 else meaning_in table word
 
--- A table entry in proofs: its borrowed word as a list of bytes, and the word's meaning.
+-- An entry of a table from words to their meanings, as proofs use it: its borrowed word as a list
+-- of bytes, and the word's meaning.
 abbrev pub entry_of : {T : Type 0} → Bor (List ℕ) × T → List ℕ × T
 entry_of entry = (entry.0.now, entry.1)
 

@@ -35,7 +35,8 @@ abbrev pub SpellsBytes : {Z : Type 0} → (word : List ℕ) → (found : Option 
 SpellsBytes word found = option_map (λ bytes. bytes.items) found ≡ bytes_of word
 
 -- The name of a device, an accounting register (a named counter) or a meter that a non-empty word
--- spells. The inner value is `None` if the word is not a valid name.
+-- spells. The inner value is `None` if the word is not a valid name (1 to 16 ASCII letters, digits,
+-- `_` or `-`, with a letter first).
 abbrev pub name_of : List ℕ → Option (Option (List ℕ))
 name_of [] = None
 name_of (byte ∷ bytes) = Some (named (byte ∷ bytes))

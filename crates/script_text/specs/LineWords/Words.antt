@@ -7,7 +7,8 @@ use Rattle.std.specs.List.{slice_split}
 abbrev pub words_of : List ℕ → List (List ℕ)
 words_of line = slice_split (λ byte. byte == 32) line
 
--- The words of a line's unread part. `None` means that all words were read.
+-- The words of a script line that the parser has not used yet. `None` means that it has used all
+-- words.
 abbrev pub words_left : Option (List ℕ) → List (List ℕ)
 words_left None = []
 words_left (Some line) = words_of line

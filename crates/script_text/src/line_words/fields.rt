@@ -9,7 +9,8 @@ use crate::line_words::words::Words;
 use energy_core::MAX_RANGE;
 use office_events::{GivenScale, Name};
 
-// Parses a non-empty word as a name. The inner value is `None` if the word is not a valid name.
+// Parses a non-empty word as a name. The inner value is `None` if the word is not a valid name (1
+// to 16 ASCII letters, digits, `_` or `-`, with a letter first).
 fn any_name(word: &[u8]) -> Option<Option<Name>>
     ensures { result ≡ name_of word.now }
 {
@@ -46,21 +47,22 @@ fn given_scale(word: &[u8]) -> Option<GivenScale>
     }
 }
 
-/// Parses the next word as a name. The inner value is `None` if the word is not a valid name.
+/// Parses the next word of a script line as a name. The inner value is `None` if the word is not a
+/// valid name (1 to 16 ASCII letters, digits, `_` or `-`, with a letter first).
 pub fn next_name(words: &mut Words<'_>) -> Option<Option<Name>>
     ensures { option_map (λ name. (name, words.new)) result ≡ first_value AnyName words.old }
 {
     any_name(words.next_word()?)
 }
 
-/// Parses the next word as a number, at most 2^63 - 1.
+/// Parses the next word of a script line as a number, at most 2^63 - 1.
 pub fn next_number(words: &mut Words<'_>) -> Option<u64>
     ensures { option_map (λ number. (number, words.new)) result ≡ first_value Number words.old }
 {
     number(words.next_word()?)
 }
 
-/// Parses the next word as an integer: digits, with or without a leading `-`.
+/// Parses the next word of a script line as an integer: digits, with or without a leading `-`.
 pub fn next_signed(words: &mut Words<'_>) -> Option<i64>
     ensures { option_map (λ number. (number, words.new)) result ≡ first_value Signed words.old }
 {
@@ -75,8 +77,8 @@ pub fn next_scale(words: &mut Words<'_>) -> Option<GivenScale>
     given_scale(words.next_word()?)
 }
 
-/// Parses the next word as the range of a counter. A missing word means the range of an `acc32`
-/// counter.
+/// Parses the next word of a script line as the range of a counter. A missing word means the range
+/// of an `acc32` counter.
 pub fn next_range(words: &mut Words<'_>) -> Option<u64>
     ensures { option_map (λ range. (range, words.new)) result ≡ first_value Range words.old }
 {
@@ -86,7 +88,7 @@ pub fn next_range(words: &mut Words<'_>) -> Option<u64>
     }
 }
 
-/// Parses the next word as a timestamp. A missing word means no timestamp.
+/// Parses the next word of a script line as a timestamp. A missing word means no timestamp.
 pub fn next_moment(words: &mut Words<'_>) -> Option<Option<u64>>
     ensures { option_map (λ moment. (moment, words.new)) result ≡ first_value Moment words.old }
 {

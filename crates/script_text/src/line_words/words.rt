@@ -7,8 +7,8 @@ use std::marker::Model;
 /// enclose an empty word.
 #[derive(Drop)]
 pub struct Words<'a> {
-    // The unread part of the line, after the last returned word and its space. `None` after the
-    // last word.
+    // The part of the line after the last word that the iterator returned and the space after this
+    // word. `None` after the last word of the line.
     rest: Option<&'a [u8]>,
 }
 

@@ -35,7 +35,7 @@ impl<const N: usize> Text<N> {
         }
     }
 
-    /// Returns the bytes that were appended to the text.
+    /// Returns the bytes that were appended to this line of text so far.
     pub fn bytes(&self) -> &[u8]
         ensures { result.now ≡ self.now }
     {
@@ -54,7 +54,7 @@ impl<const N: usize> Text<N> {
         self.filled = end;
     }
 
-    /// Appends a key, and then a number in decimal.
+    /// Appends to the text the bytes `key`, and then a number in decimal digits.
     pub fn push_number<I: Integer>(&mut self, key: &[u8], number: I)
         requires { length self.old + length key.now + I.MAX_STR_LEN ≤ N }
         ensures bytes { self.new ≡ self.old ++ key.now ++ I.text number }

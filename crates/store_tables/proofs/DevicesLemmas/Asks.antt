@@ -1,4 +1,5 @@
--- Proofs of what the queries on `devices`, `points` and `registers` return.
+-- Proofs that the queries on the tables `devices`, `points` and `registers` return exactly the rows
+-- that their conditions select, in the order of the queries.
 use Rattle.std.proofs.Common.{ℕ, bytes_eq, List, [], ◌∷◌, refl}
 use Rattle.sqlite.specs.declared.types.Value.TheVariants.{Text}
 use Rattle.sqlite.specs.Order.{Row}

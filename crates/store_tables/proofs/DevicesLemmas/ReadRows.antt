@@ -1,5 +1,5 @@
--- Proofs that the readers return the values in the result rows of `devices`, `points` and
--- `registers`.
+-- Proofs that the functions that read result rows of the tables `devices`, `points` and `registers`
+-- return the values in these rows.
 use Rattle.std.proofs.Common.{◌≡◌, ◌==◌, inl, inr, ℕ, ℤ, Bool, true, false, if◌then◌else◌, Option, Some, None, Ok, refl, subst}
 use Rattle.std.proofs.lemmas.Bool.{cases_Bool}
 use Rattle.sqlite.specs.declared.types.Value.{Value}
@@ -14,7 +14,8 @@ use Rattle.store_tables.specs.declared.devices.rows.RegisterScale.{RegisterScale
 use Rattle.store_tables.specs.declared.devices.rows.RegisterScale.TheVariants.{Fixed, At}
 use Rattle.store_tables.specs.Devices.Rows.{IsSoundDevice, device_in, point_in, IsSoundPoint, IsSoundRegister, IsSoundScale, register_in, scale_of, fixed_by, at_by, fits_a_read, reached_from}
 
--- Lemmas: if a result row can be read, all numbers that the reader returns are in their ranges.
+-- Lemmas: if a result row can be read, all numbers that the reader returns are in the ranges that
+-- the store permits for their columns.
 
 pub sound_device : (row : Row) (a : DeviceRow) → device_in row ≡ Ok a → IsSoundDevice a
 sound_device row a is =

@@ -1,5 +1,5 @@
--- The SQL statements on `devices`, `points` and `registers`, and the commands that SQLite's parser
--- builds from their texts.
+-- The SQL statements on the tables `devices`, `points` and `registers`, and the commands that
+-- SQLite's parser builds from their texts.
 use Rattle.std.proofs.Common.{◌≡◌, List, [], ◌∷◌, codes, ℕ, false, refl, pos}
 use Rattle.sqlite.specs.declared.types.Value.TheVariants.{Null, Text}
 use Rattle.sqlite.specs.Term.{Term, lit, col}
@@ -12,8 +12,8 @@ use Rattle.store_tables.specs.Schema.{books_schema}
 use Rattle.store_tables.proofs.Failures.{Suits, suits_scan}
 use Rattle.store_tables.proofs.Scans.{scan, no_limit, one, is_param, rising, falling}
 
--- The text of the SQL statement `insert_device`, and the command that SQLite's parser builds from
--- this text.
+-- The text of the SQL statement `insert_device`, which adds a row to `devices`, and the command
+-- that SQLite's parser builds from this text.
 
 abbrev pub insert_device : List ℕ
 insert_device = codes "INSERT INTO devices (place, name, unit, timeout, \"window\") VALUES (?1, ?2, ?3, ?4, ?5)"
@@ -29,8 +29,8 @@ pub insert_device_plain : IsPlain (understood books_schema insert_device)
 unfolding understood everything
 insert_device_plain = (refl, refl)
 
--- The text of the SQL statement `insert_point`, and the command that SQLite's parser builds from
--- this text.
+-- The text of the SQL statement `insert_point`, which adds a row to `points`, and the command that
+-- SQLite's parser builds from this text.
 
 abbrev pub insert_point : List ℕ
 insert_point = codes "INSERT INTO points (device, place, name, function, area, address, kind, scale) VALUES (?1, ?2, ?3, ?4, ?5, ?6, ?7, ?8)"
@@ -46,8 +46,8 @@ pub insert_point_plain : IsPlain (understood books_schema insert_point)
 unfolding understood everything
 insert_point_plain = (refl, refl)
 
--- The text of the SQL statement `delete_points`, and the command that SQLite's parser builds from
--- this text.
+-- The text of the SQL statement `delete_points`, which deletes a device's points, and the command
+-- that SQLite's parser builds from this text.
 
 abbrev pub delete_points : List ℕ
 delete_points = codes "DELETE FROM points WHERE device = ?1"
@@ -63,8 +63,8 @@ pub drop_points_plain : IsPlain (understood books_schema delete_points)
 unfolding understood everything
 drop_points_plain = (refl, refl)
 
--- The text of the SQL statement `insert_register`, and the command that SQLite's parser builds from
--- this text.
+-- The text of the SQL statement `insert_register`, which adds a row to `registers`, and the command
+-- that SQLite's parser builds from this text.
 
 abbrev pub insert_register : List ℕ
 insert_register = codes "INSERT INTO registers (place, name, device, function, address, scale_kind, scale) VALUES (?1, ?2, ?3, ?4, ?5, ?6, ?7)"
@@ -80,8 +80,8 @@ pub insert_register_plain : IsPlain (understood books_schema insert_register)
 unfolding understood everything
 insert_register_plain = (refl, refl)
 
--- The text of the SQL statement `device_rows`, and the command that SQLite's parser builds from
--- this text.
+-- The text of the SQL statement `device_rows`, which selects all devices, and the command that
+-- SQLite's parser builds from this text.
 
 abbrev pub device_rows : List ℕ
 device_rows = codes "SELECT place, name, unit, timeout, \"window\" FROM devices ORDER BY place"
@@ -111,8 +111,8 @@ pub device_rows_suits : Suits books_schema device_rows ([])
 unfolding understood everything
 device_rows_suits = suits_scan 1 device_rows_tests device_rows_project ((col 1 0, rising) ∷ []) no_limit device_rows device_rows_names ([]) (refl, refl, refl) device_rows_plain device_rows_unlisted device_rows_is refl
 
--- The text of the SQL statement `last_device`, and the command that SQLite's parser builds from
--- this text.
+-- The text of the SQL statement `last_device`, which selects the greatest index in `devices`, and
+-- the command that SQLite's parser builds from this text.
 
 abbrev pub last_device : List ℕ
 last_device = codes "SELECT place FROM devices ORDER BY place DESC LIMIT 1"
@@ -142,8 +142,8 @@ pub last_device_suits : Suits books_schema last_device ([])
 unfolding understood everything
 last_device_suits = suits_scan 1 last_device_tests last_device_project ((col 1 0, falling) ∷ []) one last_device last_device_names ([]) (refl, refl, refl) last_device_plain last_device_unlisted last_device_is refl
 
--- The text of the SQL statement `point_rows`, and the command that SQLite's parser builds from this
--- text.
+-- The text of the SQL statement `point_rows`, which selects the points of a device, and the command
+-- that SQLite's parser builds from this text.
 
 abbrev pub point_rows : List ℕ
 point_rows = codes "SELECT place, name, function, area, address, kind, scale FROM points WHERE device = ?1 ORDER BY place"
@@ -173,8 +173,8 @@ pub point_rows_suits : (device : List ℕ) → Suits books_schema point_rows (Te
 unfolding understood everything
 point_rows_suits device = suits_scan 3 point_rows_tests point_rows_project ((col 1 2, rising) ∷ []) no_limit point_rows point_rows_names (Text device ∷ []) (refl, refl, refl) point_rows_plain point_rows_unlisted point_rows_is refl
 
--- The text of the SQL statement `register_of`, and the command that SQLite's parser builds from
--- this text.
+-- The text of the SQL statement `register_of`, which selects an accounting register (a named energy
+-- counter) by name, and the command that SQLite's parser builds from this text.
 
 abbrev pub register_of : List ℕ
 register_of = codes "SELECT place, name, device, function, address, scale_kind, scale FROM registers WHERE name = ?1 LIMIT 1"
@@ -204,8 +204,8 @@ pub register_of_suits : (name : List ℕ) → Suits books_schema register_of (Te
 unfolding understood everything
 register_of_suits name = suits_scan 5 register_of_tests register_of_project [] one register_of register_of_names (Text name ∷ []) (refl, refl, refl) register_of_plain register_of_unlisted register_of_is refl
 
--- The text of the SQL statement `register_rows`, and the command that SQLite's parser builds from
--- this text.
+-- The text of the SQL statement `register_rows`, which selects a device's accounting registers
+-- (named energy counters), and the command that SQLite's parser builds from this text.
 
 abbrev pub register_rows : List ℕ
 register_rows = codes "SELECT place, name, device, function, address, scale_kind, scale FROM registers WHERE device = ?1 ORDER BY place"
@@ -235,8 +235,8 @@ pub register_rows_suits : (device : List ℕ) → Suits books_schema register_ro
 unfolding understood everything
 register_rows_suits device = suits_scan 5 register_rows_tests register_rows_project ((col 1 0, rising) ∷ []) no_limit register_rows register_rows_names (Text device ∷ []) (refl, refl, refl) register_rows_plain register_rows_unlisted register_rows_is refl
 
--- The text of the SQL statement `places_of`, and the command that SQLite's parser builds from this
--- text.
+-- The text of the SQL statement `places_of`, which selects the indices of a device's rows in
+-- `registers`, and the command that SQLite's parser builds from this text.
 
 abbrev pub places_of : List ℕ
 places_of = codes "SELECT place FROM registers WHERE device = ?1"
@@ -266,8 +266,8 @@ pub places_of_suits : (device : List ℕ) → Suits books_schema places_of (Text
 unfolding understood everything
 places_of_suits device = suits_scan 5 places_of_tests places_of_project [] no_limit places_of places_of_names (Text device ∷ []) (refl, refl, refl) places_of_plain places_of_unlisted places_of_is refl
 
--- The text of the SQL statement `last_register`, and the command that SQLite's parser builds from
--- this text.
+-- The text of the SQL statement `last_register`, which selects the greatest index in `registers`,
+-- and the command that SQLite's parser builds from this text.
 
 abbrev pub last_register : List ℕ
 last_register = codes "SELECT place FROM registers ORDER BY place DESC LIMIT 1"

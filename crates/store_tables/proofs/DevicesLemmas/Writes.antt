@@ -1,4 +1,5 @@
--- Proofs of the effect of each SQL statement that writes `devices`, `points` or `registers`.
+-- Proofs of the effect of each SQL statement that writes the table `devices`, `points` or
+-- `registers`.
 use Rattle.std.proofs.Common.{◌≡◌, ℕ, pos, bytes_eq, List, [], ◌∷◌, drop, Result, OnOk, refl}
 use Rattle.sqlite.specs.declared.types.Value.TheVariants.{Null, Text}
 use Rattle.sqlite.specs.declared.error.Error.{Error}

@@ -1,4 +1,4 @@
--- Proofs of what the queries on `entries` and `voids` return.
+-- Proofs of what the queries on the tables `entries` and `voids` return.
 use Rattle.std.proofs.Common.{ℕ, ◌==◌, pos, bytes_eq, List, [], ◌∷◌, refl}
 use Rattle.sqlite.specs.declared.types.Value.TheVariants.{Int, Text}
 use Rattle.sqlite.specs.Order.{Row}

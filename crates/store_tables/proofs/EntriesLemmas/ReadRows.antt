@@ -1,4 +1,5 @@
--- Proofs that the readers return the values in the result rows of `entries` and `voids`.
+-- Proofs that the functions that read result rows of the tables `entries` and `voids` return the
+-- values in these rows.
 use Rattle.std.proofs.Common.{◌≡◌, ℕ, pos, zero-le, Some, Ok, Err, Result, IfOk, refl, sym, ap, subst, ◌∙◌}
 use Rattle.sqlite.specs.declared.types.Value.TheVariants.{Int}
 use Rattle.sqlite.specs.Order.{Row, column}
@@ -57,12 +58,13 @@ sound_entry row (Ok e) is =
       sf = within_bounds 3 (column row 6) sf.value sf.is;
     })
 
--- Lemmas: reading an index from `entries` or `voids` returns the stored index.
+-- Lemmas: reading the index of a meter entry from the table `entries` or `voids` returns the stored
+-- index.
 
 pub reads_void : (row : Row) (r : Result ℕ RowFault) → r ≡ or_damaged (whole_in 1 greatest_place (column row 0)) → ReadsRow row voided_shown HasPlace IsSoundVoided r
 reads_void = reads_number 1 greatest_place voided_shown voided_place IsSoundVoided (λ v. refl) (λ v is. is)
 
--- Lemmas: reading a timestamp from `entries` or `voids` returns the stored timestamp.
+-- Lemmas: reading a timestamp from the table `entries` or `voids` returns the stored timestamp.
 
 pub reads_entry_moment : (row : Row) (r : Result ℕ RowFault) → r ≡ or_damaged (whole_in 0 latest_moment (column row 0)) → ReadsRow row entry_moment_shown HasEntryMoment IsSoundEntered r
 reads_entry_moment = reads_number 0 latest_moment entry_moment_shown entry_moment IsSoundEntered (λ e. refl) (λ e is. (zero-le, is.moment))

@@ -1,5 +1,5 @@
--- The SQL statements on `entries` and `voids`, and the commands that SQLite's parser builds from
--- their texts.
+-- The SQL statements on the tables `entries` and `voids`, and the commands that SQLite's parser
+-- builds from their texts.
 use Rattle.std.proofs.Common.{◌≡◌, List, [], ◌∷◌, codes, ℕ, false, refl, pos}
 use Rattle.sqlite.specs.declared.types.Value.TheVariants.{Null, Int, Text}
 use Rattle.sqlite.specs.Term.{Term, lit, col}
@@ -12,8 +12,8 @@ use Rattle.store_tables.specs.Schema.{books_schema}
 use Rattle.store_tables.proofs.Failures.{Suits, suits_scan}
 use Rattle.store_tables.proofs.Scans.{scan, no_limit, one, is_param, falling, rising}
 
--- The text of the SQL statement `insert_entry`, and the command that SQLite's parser builds from
--- this text.
+-- The text of the SQL statement `insert_entry`, which adds a row to `entries`, and the command that
+-- SQLite's parser builds from this text.
 
 abbrev pub insert_entry : List ℕ
 insert_entry = codes "INSERT INTO entries (meter, place, kind, moment, raw, rolls, \"after\", sf) VALUES (?1, ?2, ?3, ?4, ?5, ?6, ?7, ?8)"
@@ -29,8 +29,8 @@ pub insert_entry_plain : IsPlain (understood books_schema insert_entry)
 unfolding understood everything
 insert_entry_plain = (refl, refl)
 
--- The text of the SQL statement `set_rollovers`, and the command that SQLite's parser builds from
--- this text.
+-- The text of the SQL statement `set_rollovers`, which sets the rollovers of a meter entry, and the
+-- command that SQLite's parser builds from this text.
 
 abbrev pub set_rollovers : List ℕ
 set_rollovers = codes "UPDATE entries SET rolls = ?3 WHERE meter = ?1 AND place = ?2"
@@ -49,8 +49,8 @@ pub roll_entry_plain : IsPlain (understood books_schema set_rollovers)
 unfolding understood everything
 roll_entry_plain = (refl, refl)
 
--- The text of the SQL statement `entry_at`, and the command that SQLite's parser builds from this
--- text.
+-- The text of the SQL statement `entry_at`, which selects a meter's entry by index, and the command
+-- that SQLite's parser builds from this text.
 
 abbrev pub entry_at : List ℕ
 entry_at = codes "SELECT place, kind, moment, raw, rolls, \"after\", sf FROM entries WHERE meter = ?1 AND place = ?2 LIMIT 1"
@@ -80,8 +80,8 @@ pub entry_at_suits : (meter : List ℕ) (place : ℕ) → Suits books_schema ent
 unfolding understood everything
 entry_at_suits meter place = suits_scan 9 entry_at_tests entry_at_project [] one entry_at entry_at_names (Text meter ∷ Int (pos place) ∷ []) (refl, refl, refl) entry_at_plain entry_at_unlisted entry_at_is refl
 
--- The text of the SQL statement `last_place`, and the command that SQLite's parser builds from this
--- text.
+-- The text of the SQL statement `last_place`, which selects the greatest index of a meter's
+-- entries, and the command that SQLite's parser builds from this text.
 
 abbrev pub last_place : List ℕ
 last_place = codes "SELECT place FROM entries WHERE meter = ?1 ORDER BY place DESC LIMIT 1"
@@ -111,8 +111,8 @@ pub last_place_suits : (meter : List ℕ) → Suits books_schema last_place (Tex
 unfolding understood everything
 last_place_suits meter = suits_scan 9 last_place_tests last_place_project ((col 1 2, falling) ∷ []) one last_place last_place_names (Text meter ∷ []) (refl, refl, refl) last_place_plain last_place_unlisted last_place_is refl
 
--- The text of the SQL statement `entry_rows`, and the command that SQLite's parser builds from this
--- text.
+-- The text of the SQL statement `entry_rows`, which selects all entries of a meter, and the command
+-- that SQLite's parser builds from this text.
 
 abbrev pub entry_rows : List ℕ
 entry_rows = codes "SELECT place, kind, moment, raw, rolls, \"after\", sf FROM entries WHERE meter = ?1 ORDER BY place"
@@ -142,8 +142,8 @@ pub entry_rows_suits : (meter : List ℕ) → Suits books_schema entry_rows (Tex
 unfolding understood everything
 entry_rows_suits meter = suits_scan 9 entry_rows_tests entry_rows_project ((col 1 2, rising) ∷ []) no_limit entry_rows entry_rows_names (Text meter ∷ []) (refl, refl, refl) entry_rows_plain entry_rows_unlisted entry_rows_is refl
 
--- The text of the SQL statement `insert_void`, and the command that SQLite's parser builds from
--- this text.
+-- The text of the SQL statement `insert_void`, which adds a row to `voids`, and the command that
+-- SQLite's parser builds from this text.
 
 abbrev pub insert_void : List ℕ
 insert_void = codes "INSERT INTO voids (meter, place, moment) VALUES (?1, ?2, ?3)"
@@ -159,8 +159,8 @@ pub insert_void_plain : IsPlain (understood books_schema insert_void)
 unfolding understood everything
 insert_void_plain = (refl, refl)
 
--- The text of the SQL statement `void_rows`, and the command that SQLite's parser builds from this
--- text.
+-- The text of the SQL statement `void_rows`, which selects the indices of a meter's cancelled
+-- entries, and the command that SQLite's parser builds from this text.
 
 abbrev pub void_rows : List ℕ
 void_rows = codes "SELECT place FROM voids WHERE meter = ?1 ORDER BY place"
@@ -190,8 +190,8 @@ pub void_rows_suits : (meter : List ℕ) → Suits books_schema void_rows (Text 
 unfolding understood everything
 void_rows_suits meter = suits_scan 20 void_rows_tests void_rows_project ((col 1 2, rising) ∷ []) no_limit void_rows void_rows_names (Text meter ∷ []) (refl, refl, refl) void_rows_plain void_rows_unlisted void_rows_is refl
 
--- The text of the SQL statement `latest_entry`, and the command that SQLite's parser builds from
--- this text.
+-- The text of the SQL statement `latest_entry`, which selects the latest timestamp in `entries`,
+-- and the command that SQLite's parser builds from this text.
 
 abbrev pub latest_entry : List ℕ
 latest_entry = codes "SELECT moment FROM entries ORDER BY moment DESC LIMIT 1"
@@ -221,8 +221,8 @@ pub latest_entry_suits : Suits books_schema latest_entry ([])
 unfolding understood everything
 latest_entry_suits = suits_scan 9 latest_entry_tests latest_entry_project ((col 1 4, falling) ∷ []) one latest_entry latest_entry_names ([]) (refl, refl, refl) latest_entry_plain latest_entry_unlisted latest_entry_is refl
 
--- The text of the SQL statement `latest_void`, and the command that SQLite's parser builds from
--- this text.
+-- The text of the SQL statement `latest_void`, which selects the latest timestamp in `voids`, and
+-- the command that SQLite's parser builds from this text.
 
 abbrev pub latest_void : List ℕ
 latest_void = codes "SELECT moment FROM voids ORDER BY moment DESC LIMIT 1"

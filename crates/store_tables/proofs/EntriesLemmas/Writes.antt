@@ -1,4 +1,4 @@
--- Proofs of the effect of each SQL statement that writes `entries` or `voids`.
+-- Proofs of the effect of each SQL statement that writes the table `entries` or `voids`.
 use Rattle.std.proofs.Common.{◌≡◌, ℕ, ◌==◌, pos, List, [], ◌∷◌, Result, OnOk, refl}
 use Rattle.sqlite.specs.declared.types.Value.TheVariants.{Null, Int, Text}
 use Rattle.sqlite.specs.declared.error.Error.{Error}
@@ -16,7 +16,8 @@ use Rattle.store_tables.specs.Entries.Rows.{Entered, entry_columns, is_entry, ro
 use Rattle.store_tables.specs.Entries.Trees.{entries, voids}
 use Rattle.store_tables.proofs.EntriesLemmas.Texts as text
 
--- Lemmas on writes to the table `entries`.
+-- Lemmas: each SQL statement that inserts or changes rows of the table `entries`, if it succeeds,
+-- makes exactly the edit of the table that its definition states.
 
 entry_cast : (e : Entered) → cast_row (plainly entries_table) (Null ∷ entry_columns e) ≡ Null ∷ entry_columns e
 entry_cast e = simp (cast_null, cast_int)
@@ -35,7 +36,8 @@ module _ (meter : List ℕ) (place rolls : ℕ) where
       (λ n e. rw (text_is e.meter meter, number_is e.entry.place place, and_true (e.entry.place == place)) refl) (λ n e. simp cast_int) rowid_stays
       old new text.set_rollovers r text.roll_entry_is text.roll_entry_plain h
 
--- Lemmas on writes to the table `voids`.
+-- Lemmas: the SQL statement that inserts a row into the table `voids`, if it succeeds, adds exactly
+-- this row to the table.
 
 void_cast : (v : Voided) → cast_row (plainly voids_table) (Null ∷ voided_columns v) ≡ Null ∷ voided_columns v
 void_cast v = simp (cast_null, cast_int)

@@ -1,4 +1,4 @@
--- Proofs of what the queries on `installations` and `ranges` return.
+-- Proofs of what the queries on the tables `installations` and `ranges` return.
 use Rattle.std.proofs.Common.{ℕ, bytes_eq, List, [], ◌∷◌, refl}
 use Rattle.sqlite.specs.declared.types.Value.TheVariants.{Text}
 use Rattle.sqlite.specs.Order.{Row}

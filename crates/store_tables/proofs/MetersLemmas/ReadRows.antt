@@ -1,4 +1,5 @@
--- Proofs that the readers return the values in the result rows of `installations` and `ranges`.
+-- Proofs that the functions that read result rows of the tables `installations` and `ranges` return
+-- the values in these rows.
 use Rattle.std.proofs.Common.{◌≡◌, ℕ, Ok, Result, refl, subst}
 use Rattle.sqlite.specs.Order.{Row, column}
 use Rattle.store_tables.specs.declared.faults.RowFault.{RowFault}
@@ -37,7 +38,8 @@ sound_installation row a is =
       last = sound_last row last.0 last.1;
     })
 
--- Lemmas: reading an index of `installations`, or a range of a counter, returns the stored number.
+-- Lemmas: reading a meter's index from `installations`, or the range of a meter's counter from
+-- `ranges`, returns the stored number.
 
 pub reads_installed_place : (row : Row) (r : Result ℕ RowFault) → r ≡ or_damaged (whole_in 1 greatest_place (column row 0)) → ReadsRow row installed_place_shown HasInstalledPlace IsSoundInstalled r
 reads_installed_place = reads_number 1 greatest_place installed_place_shown installed_place IsSoundInstalled (λ i. refl) (λ i is. is.row.place)

@@ -1,5 +1,5 @@
--- The SQL statements on `installations` and `ranges`, and the commands that SQLite's parser builds
--- from their texts.
+-- The SQL statements on the tables `installations` and `ranges`, and the commands that SQLite's
+-- parser builds from their texts.
 use Rattle.std.proofs.Common.{◌≡◌, pos, List, [], ◌∷◌, codes, ℕ, false, refl}
 use Rattle.sqlite.specs.declared.types.Value.TheVariants.{Null, Int, Text}
 use Rattle.sqlite.specs.Term.{Term, lit, col}
@@ -12,8 +12,8 @@ use Rattle.store_tables.specs.Schema.{books_schema}
 use Rattle.store_tables.proofs.Failures.{Suits, suits_scan}
 use Rattle.store_tables.proofs.Scans.{scan, no_limit, one, is_param, falling}
 
--- The text of the SQL statement `insert_installation`, and the command that SQLite's parser builds
--- from this text.
+-- The text of the SQL statement `insert_installation`, which adds a row to `installations`, and the
+-- command that SQLite's parser builds from this text.
 
 abbrev pub insert_installation : List ℕ
 insert_installation = codes "INSERT INTO installations (place, meter, register, ceiling, ended, last_moment, last_raw, last_sf, total) VALUES (?1, ?2, ?3, ?4, ?5, ?6, ?7, ?8, ?9)"
@@ -29,8 +29,8 @@ pub insert_installation_plain : IsPlain (understood books_schema insert_installa
 unfolding understood everything
 insert_installation_plain = (refl, refl)
 
--- The text of the SQL statement `update_last`, and the command that SQLite's parser builds from
--- this text.
+-- The text of the SQL statement `update_last`, which sets a meter's last entry and total energy,
+-- and the command that SQLite's parser builds from this text.
 
 abbrev pub update_last : List ℕ
 update_last = codes "UPDATE installations SET last_moment = ?2, last_raw = ?3, last_sf = ?4, total = ?5 WHERE meter = ?1"
@@ -49,8 +49,8 @@ pub move_installation_plain : IsPlain (understood books_schema update_last)
 unfolding understood everything
 move_installation_plain = (refl, refl)
 
--- The text of the SQL statement `close_installation`, and the command that SQLite's parser builds
--- from this text.
+-- The text of the SQL statement `close_installation`, which marks a meter as closed, and the
+-- command that SQLite's parser builds from this text.
 
 abbrev pub close_installation : List ℕ
 close_installation = codes "UPDATE installations SET ended = 1 WHERE meter = ?1"
@@ -69,8 +69,8 @@ pub end_installation_plain : IsPlain (understood books_schema close_installation
 unfolding understood everything
 end_installation_plain = (refl, refl)
 
--- The text of the SQL statement `installation_of`, and the command that SQLite's parser builds from
--- this text.
+-- The text of the SQL statement `installation_of`, which selects a meter by name, and the command
+-- that SQLite's parser builds from this text.
 
 abbrev pub installation_of : List ℕ
 installation_of = codes "SELECT place, meter, register, ceiling, ended, last_moment, last_raw, last_sf, total FROM installations WHERE meter = ?1 LIMIT 1"
@@ -100,8 +100,8 @@ pub installation_of_suits : (meter : List ℕ) → Suits books_schema installati
 unfolding understood everything
 installation_of_suits meter = suits_scan 7 installation_of_tests installation_of_project [] one installation_of installation_of_names (Text meter ∷ []) (refl, refl, refl) installation_of_plain installation_of_unlisted installation_of_is refl
 
--- The text of the SQL statement `installation_at`, and the command that SQLite's parser builds from
--- this text.
+-- The text of the SQL statement `installation_at`, which selects an accounting register's latest
+-- meter, and the command that SQLite's parser builds from this text.
 
 abbrev pub installation_at : List ℕ
 installation_at = codes "SELECT place, meter, register, ceiling, ended, last_moment, last_raw, last_sf, total FROM installations WHERE register = ?1 ORDER BY place DESC LIMIT 1"
@@ -131,8 +131,8 @@ pub installation_at_suits : (register : List ℕ) → Suits books_schema install
 unfolding understood everything
 installation_at_suits register = suits_scan 7 installation_at_tests installation_at_project ((col 1 0, falling) ∷ []) one installation_at installation_at_names (Text register ∷ []) (refl, refl, refl) installation_at_plain installation_at_unlisted installation_at_is refl
 
--- The text of the SQL statement `last_installation`, and the command that SQLite's parser builds
--- from this text.
+-- The text of the SQL statement `last_installation`, which selects the greatest index in
+-- `installations`, and the command that SQLite's parser builds from this text.
 
 abbrev pub last_installation : List ℕ
 last_installation = codes "SELECT place FROM installations ORDER BY place DESC LIMIT 1"
@@ -162,8 +162,8 @@ pub last_installation_suits : Suits books_schema last_installation ([])
 unfolding understood everything
 last_installation_suits = suits_scan 7 last_installation_tests last_installation_project ((col 1 0, falling) ∷ []) one last_installation last_installation_names ([]) (refl, refl, refl) last_installation_plain last_installation_unlisted last_installation_is refl
 
--- The text of the SQL statement `insert_range`, and the command that SQLite's parser builds from
--- this text.
+-- The text of the SQL statement `insert_range`, which adds a row to `ranges`, and the command that
+-- SQLite's parser builds from this text.
 
 abbrev pub insert_range : List ℕ
 insert_range = codes "INSERT INTO ranges (meter, \"range\") VALUES (?1, ?2)"
@@ -179,8 +179,8 @@ pub insert_range_plain : IsPlain (understood books_schema insert_range)
 unfolding understood everything
 insert_range_plain = (refl, refl)
 
--- The text of the SQL statement `range_of`, and the command that SQLite's parser builds from this
--- text.
+-- The text of the SQL statement `range_of`, which selects the range of a meter's counter, and the
+-- command that SQLite's parser builds from this text.
 
 abbrev pub range_of : List ℕ
 range_of = codes "SELECT \"range\" FROM ranges WHERE meter = ?1 LIMIT 1"

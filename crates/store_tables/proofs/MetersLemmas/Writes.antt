@@ -1,4 +1,4 @@
--- Proofs of the effect of each SQL statement that writes `installations` or `ranges`.
+-- Proofs of the effect of each SQL statement that writes the table `installations` or `ranges`.
 use Rattle.std.proofs.Common.{◌≡◌, ℕ, pos, bytes_eq, List, [], ◌∷◌, drop, Result, OnOk, refl}
 use Rattle.sqlite.specs.declared.types.Value.TheVariants.{Null, Int, Text}
 use Rattle.sqlite.specs.declared.error.Error.{Error}
@@ -17,7 +17,8 @@ use Rattle.store_tables.specs.Meters.Rows.{Installed, installed_columns, install
 use Rattle.store_tables.specs.Meters.Trees.{installations, ranges}
 use Rattle.store_tables.proofs.MetersLemmas.Texts as text
 
--- Lemmas on writes to the table `installations`.
+-- Lemmas: the SQL statements `insert_installation`, `update_last` and `close_installation` add or
+-- change exactly the given meter's row of the table `installations`.
 
 installation_cast : (i : Installed) → cast_row (plainly installations_table) (installed_columns i) ≡ installed_columns i
 installation_cast i = simp (cast_null, cast_int)
@@ -43,7 +44,7 @@ close_installation meter old new r h =
     (λ n i. rw (text_is i.meter meter, and_true (bytes_eq i.meter meter)) refl) (λ n i. simp (cast_int, cast_null)) rowid_stays
     old new text.close_installation r text.end_installation_is text.end_installation_plain h
 
--- Lemmas on writes to the table `ranges`.
+-- Lemmas on the effect of inserting rows into the table `ranges`.
 
 range_cast : (x : Ranged) → cast_row (plainly ranges_table) (Null ∷ ranged_columns x) ≡ Null ∷ ranged_columns x
 range_cast x = simp (cast_null, cast_int)

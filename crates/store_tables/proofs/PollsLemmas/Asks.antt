@@ -1,4 +1,5 @@
--- Proofs of what the queries on `polls`, `outcomes`, `holds` and `replies` return.
+-- Proofs of what the queries on the tables `polls`, `outcomes`, `holds` (rejected readings) and
+-- `replies` return.
 use Rattle.std.proofs.Common.{ℕ, ◌==◌, pos, List, [], ◌∷◌, refl}
 use Rattle.sqlite.specs.declared.types.Value.TheVariants.{Int, Text}
 use Rattle.sqlite.specs.Order.{Row}

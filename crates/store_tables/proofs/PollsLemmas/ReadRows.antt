@@ -1,5 +1,5 @@
--- Proofs that the readers return the values in the result rows of `polls`, `outcomes`, `holds` and
--- `replies`.
+-- Proofs that the functions that read result rows of the tables `polls`, `outcomes`, `holds`
+-- (rejected readings) and `replies` return the values in these rows.
 use Rattle.std.proofs.lemmas.Bool.{cases_Bool}
 use Rattle.std.proofs.Common.{◌≡◌, ◌≢◌, ◌≤◌, ◌+◌, ◌==◌, inl, inr, if◌then◌else◌, ℕ, List, zero-le, Option, Some, None, Ok, Err, Result, Bool, true, false, bytes_eq, IfOk, refl, sym, ap, subst, ◌∙◌, arith}
 use Rattle.sqlite.specs.declared.types.Value.TheVariants.{Text}
@@ -23,12 +23,14 @@ use Rattle.office_events.specs.declared.answers.CommandKind.TheVariants as kind
 use Rattle.store_tables.specs.declared.polls.rows.Repeat.{Repeat}
 use Rattle.store_tables.specs.Polls.Rows.{number_shown, poll_number, poll_in, HasNumber, IsSoundPoll, IsSoundStarted, greatest_count, outcome_shown, outcome_in, malformation_of, lost_of, malformed_of, lost_by, outcome_of, IsOutcome, IsSoundOutcome, IsSoundHeld, kind_word, kind_in, reply_shown, repeat_in, repeat_as, IsRepeat, IsSoundKept, start_of, start_shown, HasStart, outcome_moment, outcome_moment_shown, HasOutcomeMoment, hold_moment, hold_moment_shown, HasHoldMoment, reply_moment, reply_moment_shown, HasReplyMoment}
 
--- Lemma: reading the number of a poll returns the stored number.
+-- Lemma: reading the number of a poll from a query's result row returns the number that the row
+-- encodes.
 
 pub reads_poll_number : (row : Row) (r : Result ℕ RowFault) → r ≡ or_damaged (whole_in 1 greatest_place (column row 0)) → ReadsRow row number_shown HasNumber IsSoundStarted r
 reads_poll_number = reads_number 1 greatest_place number_shown poll_number IsSoundStarted (λ p. refl) (λ p is. is.row.number)
 
--- Lemmas: reading the latest timestamp of a table returns the stored timestamp.
+-- Lemmas: reading the latest timestamp of the table `polls`, `outcomes`, `holds` or `replies`
+-- returns the stored timestamp.
 
 pub reads_start_moment : (row : Row) (r : Result ℕ RowFault) → r ≡ or_damaged (whole_in 0 latest_moment (column row 0)) → ReadsRow row start_shown HasStart IsSoundStarted r
 reads_start_moment = reads_number 0 latest_moment start_shown start_of IsSoundStarted (λ p. refl) (λ p is. (zero-le, is.row.started))
@@ -42,7 +44,8 @@ reads_hold_moment = reads_number 0 latest_moment hold_moment_shown hold_moment I
 pub reads_reply_moment : (row : Row) (r : Result ℕ RowFault) → r ≡ or_damaged (whole_in 0 latest_moment (column row 0)) → ReadsRow row reply_moment_shown HasReplyMoment IsSoundKept r
 reads_reply_moment = reads_number 0 latest_moment reply_moment_shown reply_moment IsSoundKept (λ k. refl) (λ k is. (zero-le, is))
 
--- Lemmas: a row of `polls` is read as the stored poll, and its numbers are in their ranges.
+-- Lemmas: a row of `polls` is read as the stored poll, and its numbers are in the ranges that the
+-- store permits for their columns.
 
 room_of : (address count : ℕ) → address ≤ 65535 → count ≤ greatest_count address → (count ≤ 125) × (address + count ≤ 65536)
 room_of address count low room = (omega arith, omega arith)
@@ -70,7 +73,8 @@ sound_poll row a is =
       inside = room.1;
     })
 
--- Lemmas: a row of `outcomes` is read as the stored outcome, and its numbers are in their ranges.
+-- Lemmas: a row of `outcomes` is read as the stored outcome, and its numbers are in the ranges that
+-- the store permits for their columns.
 
 outcome_back : (o : Outcome) → outcome_of (outcome_number o) (outcome_code o) ≡ Some o
 outcome_back Answered = refl
@@ -173,8 +177,8 @@ sound_outcome row (Ok a) is =
       code = code_bound number.value code.value outcome.value (whole_bounds 0 255 (column row 3) code.value code.is).1 outcome.is;
     })
 
--- Lemmas: the reader of a row of `replies` compares the stored request correctly with the new
--- request.
+-- Lemmas: the reader of a row of `replies` (stored requests) finds whether the stored request and
+-- the new request have equal bytes.
 
 kind_back : (k : CommandKind) → kind_in (Text (kind_word k)) ≡ Some k
 kind_back kind.Device = refl

@@ -1,5 +1,5 @@
--- The SQL statements on `polls`, `outcomes`, `holds` and `replies`, and the commands that SQLite's
--- parser builds from their texts.
+-- The SQL statements on the tables `polls`, `outcomes`, `holds` and `replies`, and the commands
+-- that SQLite's parser builds from their texts.
 use Rattle.std.proofs.Common.{◌≡◌, pos, List, [], ◌∷◌, codes, ℕ, false, None, inl, inr, refl}
 use Rattle.sqlite.specs.declared.types.Value.TheVariants.{Null, Int, Text}
 use Rattle.sqlite.specs.Term.{Term, lit, col}
@@ -21,8 +21,8 @@ use Rattle.store_tables.specs.Schema.{books_schema}
 use Rattle.store_tables.proofs.Failures.{Suits, suits_scan}
 use Rattle.store_tables.proofs.Scans.{scan, no_limit, one, is_param, rising, falling}
 
--- The text of the SQL statement `insert_poll`, and the command that SQLite's parser builds from
--- this text.
+-- The text of the SQL statement `insert_poll`, which adds a row to `polls`, and the command that
+-- SQLite's parser builds from this text.
 
 abbrev pub insert_poll : List ℕ
 insert_poll = codes "INSERT INTO polls (poll, device, unit, started, tid, function, address, count) VALUES (?1, ?2, ?3, ?4, ?5, ?6, ?7, ?8)"
@@ -38,8 +38,8 @@ pub insert_poll_plain : IsPlain (understood books_schema insert_poll)
 unfolding understood everything
 insert_poll_plain = (refl, refl)
 
--- The text of the SQL statement `insert_outcome`, and the command that SQLite's parser builds from
--- this text.
+-- The text of the SQL statement `insert_outcome`, which adds a row to `outcomes`, and the command
+-- that SQLite's parser builds from this text.
 
 abbrev pub insert_outcome : List ℕ
 insert_outcome = codes "INSERT INTO outcomes (poll, moment, outcome, code) VALUES (?1, ?2, ?3, ?4)"
@@ -55,8 +55,8 @@ pub insert_outcome_plain : IsPlain (understood books_schema insert_outcome)
 unfolding understood everything
 insert_outcome_plain = (refl, refl)
 
--- The text of the SQL statement `insert_rejected`, and the command that SQLite's parser builds from
--- this text.
+-- The text of the SQL statement `insert_rejected`, which adds a rejected reading to `holds`, and
+-- the command that SQLite's parser builds from this text.
 
 abbrev pub insert_rejected : List ℕ
 insert_rejected = codes "INSERT INTO holds (place, meter, poll, moment, raw, sf, cause) VALUES (?1, ?2, ?3, ?4, ?5, ?6, ?7)"
@@ -72,8 +72,8 @@ pub insert_hold_plain : IsPlain (understood books_schema insert_rejected)
 unfolding understood everything
 insert_hold_plain = (refl, refl)
 
--- The text of the SQL statement `insert_kept_request`, and the command that SQLite's parser builds
--- from this text.
+-- The text of the SQL statement `insert_kept_request`, which adds a row to `replies`, and the
+-- command that SQLite's parser builds from this text.
 
 abbrev pub insert_kept_request : List ℕ
 insert_kept_request = codes "INSERT INTO replies (caller, number, request, kind, moment) VALUES (?1, ?2, ?3, ?4, ?5)"
@@ -89,8 +89,8 @@ pub insert_reply_plain : IsPlain (understood books_schema insert_kept_request)
 unfolding understood everything
 insert_reply_plain = (refl, refl)
 
--- The text of the SQL statement `poll_at`, and the command that SQLite's parser builds from this
--- text.
+-- The text of the SQL statement `poll_at`, which selects a poll by number, and the command that
+-- SQLite's parser builds from this text.
 
 abbrev pub poll_at : List ℕ
 poll_at = codes "SELECT poll, device, unit, started, tid, function, address, count FROM polls WHERE poll = ?1 LIMIT 1"
@@ -120,8 +120,8 @@ pub poll_at_suits : (number : ℕ) → Suits books_schema poll_at (Int (pos numb
 unfolding understood everything
 poll_at_suits number = suits_scan 11 poll_at_tests poll_at_project [] one poll_at poll_at_names (Int (pos number) ∷ []) (refl, refl, refl) poll_at_plain poll_at_unlisted poll_at_is refl
 
--- The text of the SQL statement `last_poll`, and the command that SQLite's parser builds from this
--- text.
+-- The text of the SQL statement `last_poll`, which selects the greatest number in `polls`, and the
+-- command that SQLite's parser builds from this text.
 
 abbrev pub last_poll : List ℕ
 last_poll = codes "SELECT poll FROM polls ORDER BY poll DESC LIMIT 1"
@@ -151,8 +151,8 @@ pub last_poll_suits : Suits books_schema last_poll ([])
 unfolding understood everything
 last_poll_suits = suits_scan 11 last_poll_tests last_poll_project ((col 1 0, falling) ∷ []) one last_poll last_poll_names ([]) (refl, refl, refl) last_poll_plain last_poll_unlisted last_poll_is refl
 
--- The text of the SQL statement `outcome_of`, and the command that SQLite's parser builds from this
--- text.
+-- The text of the SQL statement `outcome_of`, which selects the outcome of a poll, and the command
+-- that SQLite's parser builds from this text.
 
 abbrev pub outcome_of : List ℕ
 outcome_of = codes "SELECT poll, moment, outcome, code FROM outcomes WHERE poll = ?1 LIMIT 1"
@@ -182,8 +182,8 @@ pub outcome_of_suits : (poll : ℕ) → Suits books_schema outcome_of (Int (pos 
 unfolding understood everything
 outcome_of_suits poll = suits_scan 13 outcome_of_tests outcome_of_project [] one outcome_of outcome_of_names (Int (pos poll) ∷ []) (refl, refl, refl) outcome_of_plain outcome_of_unlisted outcome_of_is refl
 
--- The text of the SQL statement `last_hold`, and the command that SQLite's parser builds from this
--- text.
+-- The text of the SQL statement `last_hold`, which selects the greatest index in `holds`, and the
+-- command that SQLite's parser builds from this text.
 
 abbrev pub last_hold : List ℕ
 last_hold = codes "SELECT place FROM holds ORDER BY place DESC LIMIT 1"
@@ -213,8 +213,8 @@ pub last_hold_suits : Suits books_schema last_hold ([])
 unfolding understood everything
 last_hold_suits = suits_scan 12 last_hold_tests last_hold_project ((col 1 0, falling) ∷ []) one last_hold last_hold_names ([]) (refl, refl, refl) last_hold_plain last_hold_unlisted last_hold_is refl
 
--- The text of the SQL statement `repeat_of`, and the command that SQLite's parser builds from this
--- text.
+-- The text of the SQL statement `repeat_of`, which selects a stored request by its idempotency key,
+-- and the command that SQLite's parser builds from this text.
 
 abbrev pub repeat_of : List ℕ
 repeat_of = codes "SELECT request, kind FROM replies WHERE caller = ?1 AND number = ?2 LIMIT 1"
@@ -244,8 +244,8 @@ pub repeat_of_suits : (caller : List ℕ) (number : ℕ) → Suits books_schema 
 unfolding understood everything
 repeat_of_suits caller number = suits_scan 16 repeat_of_tests repeat_of_project [] one repeat_of repeat_of_names (Text caller ∷ Int (pos number) ∷ []) (refl, refl, refl) repeat_of_plain repeat_of_unlisted repeat_of_is refl
 
--- The text of the SQL statement `latest_start`, and the command that SQLite's parser builds from
--- this text.
+-- The text of the SQL statement `latest_start`, which selects the latest timestamp in `polls`, and
+-- the command that SQLite's parser builds from this text.
 
 abbrev pub latest_start : List ℕ
 latest_start = codes "SELECT started FROM polls ORDER BY started DESC LIMIT 1"
@@ -275,8 +275,8 @@ pub latest_start_suits : Suits books_schema latest_start ([])
 unfolding understood everything
 latest_start_suits = suits_scan 11 latest_start_tests latest_start_project ((col 1 4, falling) ∷ []) one latest_start latest_start_names ([]) (refl, refl, refl) latest_start_plain latest_start_unlisted latest_start_is refl
 
--- The text of the SQL statement `latest_outcome`, and the command that SQLite's parser builds from
--- this text.
+-- The text of the SQL statement `latest_outcome`, which selects the latest timestamp in `outcomes`,
+-- and the command that SQLite's parser builds from this text.
 
 abbrev pub latest_outcome : List ℕ
 latest_outcome = codes "SELECT moment FROM outcomes ORDER BY moment DESC LIMIT 1"
@@ -306,8 +306,8 @@ pub latest_outcome_suits : Suits books_schema latest_outcome ([])
 unfolding understood everything
 latest_outcome_suits = suits_scan 13 latest_outcome_tests latest_outcome_project ((col 1 2, falling) ∷ []) one latest_outcome latest_outcome_names ([]) (refl, refl, refl) latest_outcome_plain latest_outcome_unlisted latest_outcome_is refl
 
--- The text of the SQL statement `latest_hold`, and the command that SQLite's parser builds from
--- this text.
+-- The text of the SQL statement `latest_hold`, which selects the latest timestamp in `holds`, and
+-- the command that SQLite's parser builds from this text.
 
 abbrev pub latest_hold : List ℕ
 latest_hold = codes "SELECT moment FROM holds ORDER BY moment DESC LIMIT 1"
@@ -337,8 +337,8 @@ pub latest_hold_suits : Suits books_schema latest_hold ([])
 unfolding understood everything
 latest_hold_suits = suits_scan 12 latest_hold_tests latest_hold_project ((col 1 4, falling) ∷ []) one latest_hold latest_hold_names ([]) (refl, refl, refl) latest_hold_plain latest_hold_unlisted latest_hold_is refl
 
--- The text of the SQL statement `latest_reply`, and the command that SQLite's parser builds from
--- this text.
+-- The text of the SQL statement `latest_reply`, which selects the latest timestamp in `replies`,
+-- and the command that SQLite's parser builds from this text.
 
 abbrev pub latest_reply : List ℕ
 latest_reply = codes "SELECT moment FROM replies ORDER BY moment DESC LIMIT 1"
@@ -368,8 +368,8 @@ pub latest_reply_suits : Suits books_schema latest_reply ([])
 unfolding understood everything
 latest_reply_suits = suits_scan 16 latest_reply_tests latest_reply_project ((col 1 5, falling) ∷ []) one latest_reply latest_reply_names ([]) (refl, refl, refl) latest_reply_plain latest_reply_unlisted latest_reply_is refl
 
--- The text of the SQL statement `pending_rows`, and the command that SQLite's parser builds from
--- this text.
+-- The text of the SQL statement `pending_rows`, which selects the polls without an outcome, and the
+-- command that SQLite's parser builds from this text.
 
 abbrev pub pending : List ℕ
 pending = codes "SELECT poll, device, unit, started, tid, function, address, count FROM polls WHERE NOT EXISTS (SELECT 1 FROM outcomes WHERE outcomes.poll = polls.poll) ORDER BY poll"

@@ -31,7 +31,8 @@ use Rattle.store_tables.specs.Polls.Pending.{is_pending}
 use Rattle.store_tables.specs.Polls.Trees.{polls, outcomes}
 use Rattle.store_tables.proofs.PollsLemmas.Texts as text
 
--- Lemmas: NOT EXISTS is true exactly if no row passes the test of its subquery.
+-- Lemmas: the SQL condition NOT EXISTS is true exactly if no row passes the WHERE test of its
+-- subquery.
 
 one_at_most : (n : ℕ) → min 1 (suc n) ≡ 1
 one_at_most n = omega arith

@@ -1,4 +1,5 @@
--- Proofs of the effect of each SQL statement that writes `polls`, `outcomes`, `holds` or `replies`.
+-- Proofs of the effect of each SQL statement that writes the table `polls`, `outcomes`, `holds` or
+-- `replies`.
 use Rattle.std.proofs.Common.{◌≡◌, ℕ, pos, ◌∷◌, drop, Result, OnOk, refl}
 use Rattle.sqlite.specs.declared.types.Value.TheVariants.{Null}
 use Rattle.sqlite.specs.declared.error.Error.{Error}

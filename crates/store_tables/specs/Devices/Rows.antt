@@ -1,5 +1,5 @@
 -- Rows of `devices`, `points` and `registers` (named counters of devices), their columns, and the
--- ranges of their values.
+-- ranges that the store permits for the values in these columns.
 use Rattle.std.specs.Prelude.{◌≡◌, ℕ, ℤ, pos, ◌≤◌, ◌+◌, ◌-◌, min, max, nat_le, true, List, [], ◌∷◌, ◌++◌, map, length, filter, IsTrue, Bool, bytes_eq, ◌==◌, Option, Some, None, if◌then◌else◌, Result, Ok, IsUtf8, string_bytes}
 use Rattle.sqlite.specs.declared.types.Value.{Value}
 use Rattle.sqlite.specs.declared.types.Value.TheVariants.{Null, Int, Text}
@@ -21,7 +21,8 @@ use Rattle.store_tables.specs.declared.devices.rows.Register.{Register}
 use Rattle.store_tables.specs.declared.devices.rows.RegisterScale.{RegisterScale}
 use Rattle.store_tables.specs.declared.devices.rows.RegisterScale.TheVariants as scale
 
--- Definitions of the rows of the table `devices`.
+-- Definitions of the rows of the table `devices`: their columns, what queries return of them, and
+-- the ranges of their numbers.
 
 -- A Modbus device, as a row of the table `devices`.
 pub record Added : Type 0 where
@@ -44,18 +45,20 @@ device_shown d =
 abbrev pub device_place : Added → ℕ
 device_place d = d.row.place
 
--- The result row of the query for the last device. The row has only the device's index.
+-- The result row of the query for the last device (the one with the greatest index). The row has
+-- only the device's index.
 abbrev pub device_place_shown : Added → Row
 device_place_shown d = Int (pos d.row.place) ∷ []
 
--- True if every number in a row of `devices` is in its range.
+-- True if every number in a row of `devices` is in the range that the store permits for its column.
 pub record IsSoundDevice (d : DeviceRow) : Type 0 where
   pub place : IsPlace d.place
   pub unit : d.unit ≤ LAST_UNIT
   pub timeout : (1 ≤ d.timeout) × (d.timeout ≤ MAX_TIMEOUT)
   pub window : (1 ≤ d.window) × (d.window ≤ MAX_WINDOW)
 
--- True if every number in a row of `devices` is in its range, and the device's name is UTF-8.
+-- True if every number in a row of `devices` is in the range that the store permits for its column,
+-- and the device's name is UTF-8.
 pub record IsSoundAdded (d : Added) : Type 0 where
   pub row : IsSoundDevice d.row
   pub name : IsUtf8 d.name
@@ -66,7 +69,8 @@ pub record IsDevice (d : Added) (a : Device) : Type 0 where
   pub name : string_bytes a.name ≡ d.name
   pub row : a.row ≡ d.row
 
--- The numbers of a device in a result row, or `Damaged` if a number is out of its range.
+-- The numbers of a device in a result row, or `Damaged` if a number is out of the range that the
+-- store permits for its column.
 abbrev pub device_in : Row → Result DeviceRow RowFault
 device_in row =
     and_then (or_damaged (whole_in 1 greatest_place (column row 0))) (λ place.
@@ -110,13 +114,14 @@ is_point_of device p = bytes_eq p.device device
 abbrev pub point_place : Listed → ℕ
 point_place p = p.row.place
 
--- True if every number of a point is in its range.
+-- True if every number of a point is in the range that the store permits for its column.
 pub record IsSoundPoint (p : PointRow) : Type 0 where
   pub place : IsPlace p.place
   pub area : p.area ≤ 255
   pub address : p.address ≤ LAST_ADDRESS
 
--- True if every number of a point is in its range, and its texts are UTF-8.
+-- True if every number of a point is in the range that the store permits for its column, and the
+-- point's texts are UTF-8.
 pub record IsSoundListed (p : Listed) : Type 0 where
   pub row : IsSoundPoint p.row
   pub name : IsUtf8 p.name
@@ -144,7 +149,8 @@ with_points device ps rows = map (listed_at device) ps ++ rows
 abbrev pub with_list : (device : List ℕ) → List Point → List Listed → List Listed
 with_list device ps rows = with_points device ps (without_where (is_point_of device) rows)
 
--- The numbers of a point in a result row, or `Damaged` if a number is out of its range.
+-- The numbers of a point in a result row, or `Damaged` if a number is out of the range that the
+-- store permits for its column.
 abbrev pub point_in : Row → Result PointRow RowFault
 point_in row =
     and_then (or_damaged (whole_in 1 greatest_place (column row 0))) (λ place.
@@ -222,16 +228,16 @@ is_register name r = bytes_eq r.name name
 abbrev pub is_register_of : (device : List ℕ) → Registered → Bool
 is_register_of device r = bytes_eq r.device device
 
--- True if every number of an accounting register (a named counter) is in its range, and one Modbus
--- read covers the counter and its scale.
+-- True if every number of an accounting register (a named counter) is in the range that the store
+-- permits for its column. One Modbus read must also cover the counter and its scale.
 pub record IsSoundRegister (r : RegisterRow) : Type 0 where
   pub place : IsPlace r.place
   pub address : r.address ≤ LAST_COUNTER
   pub scale : IsSoundScale r.scale
   pub span : fits_a_read r.address r.scale ≡ true
 
--- True if the numbers of an accounting register (a named counter) are in their ranges, and the
--- register's names are UTF-8.
+-- True if the numbers of an accounting register (a named counter) are in the ranges that the store
+-- permits for their columns, and the register's names are UTF-8.
 pub record IsSoundRegistered (r : Registered) : Type 0 where
   pub row : IsSoundRegister r.row
   pub name : IsUtf8 r.name
@@ -264,7 +270,7 @@ reached_from address None = None
 reached_from address (Some scale) = if fits_a_read address scale then Some scale else None
 
 -- The numbers of an accounting register (a named counter) in a result row, or `Damaged` if a number
--- is out of its range.
+-- is out of the range that the store permits for its column.
 abbrev pub register_in : Row → Result RegisterRow RowFault
 register_in row =
     and_then (or_damaged (whole_in 1 greatest_place (column row 0))) (λ place.

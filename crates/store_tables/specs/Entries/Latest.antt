@@ -14,7 +14,8 @@ entry_moment e = e.entry.moment
 abbrev pub entry_moment_shown : Entered → Row
 entry_moment_shown e = Int (pos e.entry.moment) ∷ []
 
--- True if a query returned the timestamp of this entry.
+-- True if `moment`, the timestamp that the query for the latest entry returned, is the timestamp of
+-- the meter entry `e`.
 abbrev pub HasEntryMoment : Entered → ℕ → Type 0
 HasEntryMoment e moment = moment ≡ e.entry.moment
 
@@ -27,7 +28,8 @@ void_moment v = v.moment
 abbrev pub void_moment_shown : Voided → Row
 void_moment_shown v = Int (pos v.moment) ∷ []
 
--- True if a query returned the time in this row of `voids`, at which an entry was cancelled.
+-- True if the time that a query returned is the time in this row of `voids`, at which an entry was
+-- cancelled.
 abbrev pub HasVoidMoment : Voided → ℕ → Type 0
 HasVoidMoment v moment = moment ≡ v.moment
 

@@ -1,5 +1,5 @@
 -- Rows of `entries` (readings and corrections of meters) and `voids` (cancelled entries), their
--- columns, and the ranges of their values.
+-- columns, and the ranges that the store permits for the values in these columns.
 use Rattle.std.specs.Prelude.{◌≡◌, ℕ, pos, ◌≤◌, List, [], ◌∷◌, IsTrue, Bool, bytes_eq, ◌&&◌, ◌==◌, Option, Some, None, if◌then◌else◌, Result, Ok}
 use Rattle.std.specs.Option.{option_and_then}
 use Rattle.energy_core.specs.declared.limits.TheConstants.{MAX_SHOWN}
@@ -33,7 +33,8 @@ kind_of n =
     if n == 5 then Some Reset else
     if n == 6 then Some Rescale else None
 
--- An entry of a meter, with the meter's name.
+-- An entry (a reading or a change) of a meter, with the meter's name, as a row of the table
+-- `entries`.
 pub record Entered : Type 0 where
   pub meter : List ℕ
   pub entry : EntryRow
@@ -54,11 +55,11 @@ is_entry meter place e = bytes_eq e.meter meter && (e.entry.place == place)
 abbrev pub is_of : (meter : List ℕ) → Entered → Bool
 is_of meter e = bytes_eq e.meter meter
 
--- An entry with its number of counter rollovers set to `rolls`.
+-- A meter's entry with its number of counter rollovers set to `rolls`.
 abbrev pub rolled : (rolls : ℕ) → Entered → Entered
 rolled rolls e = record e { entry = record e.entry { rolls = rolls } }
 
--- True if every value of an entry is within the bounds of its column.
+-- True if every value of a meter's entry is within the bounds that the store sets for its column.
 pub record IsSoundEntry (e : EntryRow) : Type 0 where
   pub place : (1 ≤ e.place) × (e.place ≤ greatest_place)
   pub moment : e.moment ≤ latest_moment
@@ -78,7 +79,8 @@ entry_shown e =
 abbrev pub IsRow : Entered → EntryRow → Type 0
 IsRow e row = row ≡ e.entry
 
--- True if every value of a stored entry is within the bounds of its column.
+-- True if every value of a stored meter entry is within the bounds that the store sets for its
+-- column.
 abbrev pub IsSoundEntered : Entered → Type 0
 IsSoundEntered e = IsSoundEntry e.entry
 
@@ -90,7 +92,8 @@ place_shown e = Int (pos e.entry.place) ∷ []
 abbrev pub kind_in : Value → Option EntryKind
 kind_in v = option_and_then kind_of (whole_in 1 6 v)
 
--- The entry that a result row encodes, or `Damaged` if a column is out of its range.
+-- The meter entry that a result row encodes, or `Damaged` if a column's value is out of the range
+-- that the store permits.
 abbrev pub entry_in : Row → Result EntryRow RowFault
 entry_in row =
     and_then (or_damaged (whole_in 1 greatest_place (column row 0))) (λ place.
@@ -114,7 +117,8 @@ entry_in row =
 abbrev pub entry_place : Entered → ℕ
 entry_place e = e.entry.place
 
--- Definitions of the rows of `voids`, which cancel entries of meters.
+-- Definitions of the rows of `voids`, which cancel entries of meters: their columns, what queries
+-- return of them, and the bounds of their indices.
 
 -- A void: a row of `voids` that cancels one entry of a meter, with the time of the cancellation.
 pub record Voided : Type 0 where
@@ -141,10 +145,10 @@ is_void_of meter v = bytes_eq v.meter meter
 abbrev pub voided_place : Voided → ℕ
 voided_place v = v.place
 
--- True if the index of a cancelled entry is within its bounds.
+-- True if the index of a cancelled entry is within the bounds of row indices: 1 to 2^62.
 abbrev pub IsSoundVoided : Voided → Type 0
 IsSoundVoided v = IsPlace v.place
 
--- True if a query returned the index of the cancelled entry.
+-- True if the index that a query returned is the index of the entry that a row of `voids` cancels.
 abbrev pub HasPlace : Voided → ℕ → Type 0
 HasPlace v place = place ≡ v.place

@@ -1,5 +1,5 @@
 -- Rows of `installations` (meters) and `ranges` (how many values their counters have), their
--- columns, and the bounds of their values.
+-- columns, and the bounds that the store sets for the values in these columns.
 use Rattle.std.specs.Prelude.{◌≡◌, ℕ, pos, ◌≤◌, List, [], ◌∷◌, IsTrue, Bool, bytes_eq, ◌==◌, Option, Some, None, if◌then◌else◌, Result, Ok, true, false, IsUtf8, string_bytes}
 use Rattle.std.specs.Option.{option_and_then}
 use Rattle.energy_core.specs.declared.limits.TheConstants.{MAX_CEILING, MAX_RANGE, MAX_SHOWN, MAX_TOTAL, MIN_RANGE}
@@ -75,20 +75,23 @@ moved last i = record i { row = record i.row { last = last } }
 abbrev pub ended : Installed → Installed
 ended i = record i { row = record i.row { is_ended = true } }
 
--- True if every value of a meter's last entry, and its total energy, is in its range.
+-- True if every value of a meter's last entry, and the meter's total energy, is in the range that
+-- the store permits for its column.
 pub record IsSoundLast (last : LastRow) : Type 0 where
   pub moment : last.moment ≤ latest_moment
   pub raw : last.raw ≤ MAX_SHOWN
   pub sf : IsTrue (is_within 3 last.sf)
   pub total : last.total ≤ greatest_total
 
--- True if every number in a row of `installations` is in its range. Names are not checked.
+-- True if every number in a row of `installations` is in the range that the store permits for its
+-- column. Names are not checked.
 pub record IsSoundInstallation (row : InstallationRow) : Type 0 where
   pub place : (1 ≤ row.place) × (row.place ≤ greatest_place)
   pub ceiling : (1 ≤ row.ceiling) × (row.ceiling ≤ greatest_ceiling)
   pub last : IsSoundLast row.last
 
--- True if every number in a row of `installations` is in its range, and its names are UTF-8.
+-- True if every number in a row of `installations` is in the range that the store permits for its
+-- column, and the row's names are UTF-8.
 pub record IsSoundInstalled (i : Installed) : Type 0 where
   pub row : IsSoundInstallation i.row
   pub meter : IsUtf8 i.meter
@@ -109,7 +112,8 @@ flag_of n = if n == 0 then Some false else if n == 1 then Some true else None
 abbrev pub flag_in : Value → Option Bool
 flag_in v = option_and_then flag_of (whole_in 0 1 v)
 
--- The last entry and the total energy in a result row, or `Damaged` if a value is out of its range.
+-- The last entry and the total energy of a meter in a result row, or `Damaged` if a value is out of
+-- its range. The store permits a range for each column.
 abbrev pub last_in : Row → Result LastRow RowFault
 last_in row =
     and_then (or_damaged (whole_in 0 latest_moment (column row 5))) (λ moment.
@@ -118,8 +122,8 @@ last_in row =
     and_then (or_damaged (whole_in 0 greatest_total (column row 8))) (λ total.
     Ok (record { moment = moment; raw = raw; sf = sf; total = total })))))
 
--- The numbers of a meter in a result row of `installations`, or `Damaged` if a number is out of its
--- range.
+-- The numbers of a meter in a result row of `installations`, or `Damaged` if a number is out of the
+-- range that the store permits for its column.
 abbrev pub installation_in : Row → Result InstallationRow RowFault
 installation_in row =
     and_then (or_damaged (whole_in 1 greatest_place (column row 0))) (λ place.
@@ -132,7 +136,8 @@ installation_in row =
 abbrev pub installed_place_shown : Installed → Row
 installed_place_shown i = Int (pos i.row.place) ∷ []
 
--- True if a query returned the index of this row of `installations`.
+-- True if `place`, the index that a query returned, is the index of the given row of
+-- `installations`.
 abbrev pub HasInstalledPlace : Installed → ℕ → Type 0
 HasInstalledPlace i place = place ≡ i.row.place
 
@@ -156,7 +161,7 @@ range_shown r = Int (pos r.range) ∷ []
 abbrev pub is_range_of : (meter : List ℕ) → Ranged → Bool
 is_range_of meter r = bytes_eq r.meter meter
 
--- True if the store accepts a counter with this number of values.
+-- True if the store accepts a counter that has this number of values before it rolls over.
 abbrev pub IsRange : ℕ → Type 0
 IsRange range = (MIN_RANGE ≤ range) × (range ≤ MAX_RANGE)
 
@@ -164,6 +169,7 @@ IsRange range = (MIN_RANGE ≤ range) × (range ≤ MAX_RANGE)
 abbrev pub IsSoundRanged : Ranged → Type 0
 IsSoundRanged r = IsRange r.range
 
--- True if a query returned the number of values of the counter in a row of `ranges`.
+-- True if a query returned the number in a row of `ranges`: how many values the meter's counter
+-- has.
 abbrev pub HasRange : Ranged → ℕ → Type 0
 HasRange r range = range ≡ r.range

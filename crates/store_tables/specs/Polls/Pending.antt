@@ -14,12 +14,12 @@ use Rattle.store_tables.specs.declared.polls.rows.OutcomeRow.{OutcomeRow}
 use Rattle.store_tables.specs.Polls.Rows.{Started, poll_columns, poll_shown, poll_number, outcome_columns, is_outcome_of}
 use Rattle.store_tables.specs.Polls.Trees.{polls, outcomes}
 
--- True if a poll is pending: no outcome in the list belongs to it.
+-- True if a poll is pending: no outcome in the given list belongs to the poll.
 abbrev pub is_pending : List OutcomeRow → Started → Bool
 is_pending ended p = not (list_any (is_outcome_of p.row.number) ended)
 
--- True if an Ok answer has the rows of the polls without an outcome, ordered by poll number. Any
--- error has a permitted cause, such as out of memory.
+-- True if the query for the pending polls, at Ok, returned the rows of the polls without an
+-- outcome, ordered by poll number. Any error has a permitted cause, such as out of memory.
 abbrev pub ShowsPending : {S A : Type 0} → Ghosts S → (old new : Held S)
     → (result : Result A Error) → (rows : A → List Row) → Type 0
 ShowsPending g old new result rows =

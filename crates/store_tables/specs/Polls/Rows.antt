@@ -1,5 +1,5 @@
 -- Rows of `polls`, `outcomes`, `holds` (rejected readings) and `replies` (stored requests), their
--- columns, and the ranges of their values.
+-- columns, and the ranges that the store permits for the values in these columns.
 use Rattle.std.specs.Prelude.{◌≡◌, ℕ, pos, ◌≤◌, ◌<◌, ◌+◌, ◌-◌, ◌^◌, min, List, [], ◌∷◌, Bool, bytes_eq, ◌&&◌, ◌==◌, Option, Some, None, if◌then◌else◌, Result, Ok, IsUtf8, string_bytes, codes}
 use Rattle.sqlite.specs.declared.types.Value.{Value}
 use Rattle.sqlite.specs.declared.types.Value.TheVariants.{Null, Int, Real, Text, Blob}
@@ -25,7 +25,8 @@ use Rattle.office_events.specs.declared.answers.CommandKind.TheVariants as kind
 use Rattle.store_tables.specs.declared.polls.rows.Repeat.{Repeat}
 use Rattle.store_tables.specs.declared.polls.rows.Repeat.TheVariants.{Same, Other}
 
--- Definitions of the rows of the table `polls`.
+-- Definitions of the rows of the table `polls`: their columns, what queries return of them, and the
+-- ranges of their numbers.
 
 -- A poll of a device, as a row of the table `polls`. A poll is one Modbus read that was started.
 pub record Started : Type 0 where
@@ -62,7 +63,8 @@ is_poll number p = p.row.number == number
 abbrev pub greatest_count : (address : ℕ) → ℕ
 greatest_count address = min 125 (65536 - address)
 
--- True if every number of a poll is in its range, and the poll reads no address above 65535.
+-- True if every number of a poll is in the range that the store permits for its column, and the
+-- poll reads no address above 65535.
 pub record IsSoundPoll (p : PollRow) : Type 0 where
   pub number : IsPlace p.number
   pub unit : p.unit ≤ 255
@@ -72,22 +74,24 @@ pub record IsSoundPoll (p : PollRow) : Type 0 where
   pub count : (1 ≤ p.count) × (p.count ≤ 125)
   pub inside : p.address + p.count ≤ 65536
 
--- True if every number of a poll is in its range, and the name of its device is UTF-8.
+-- True if every number of a poll is in the range that the store permits for its column, and the
+-- name of the poll's device is UTF-8.
 pub record IsSoundStarted (p : Started) : Type 0 where
   pub row : IsSoundPoll p.row
   pub device : IsUtf8 p.device
 
--- True if the poll that was read from a result row has the device and the numbers of the stored
--- poll.
+-- True if the poll that was read from a result row has the device name and the numeric columns of
+-- the stored poll.
 pub record IsStarted (p : Started) (a : Poll) : Type 0 where
   pub device : string_bytes a.device ≡ p.device
   pub row : a.row ≡ p.row
 
--- True if the number that a query returned is the number of this poll.
+-- True if the number that a query returned is the number of the given poll.
 abbrev pub HasNumber : Started → ℕ → Type 0
 HasNumber p number = number ≡ p.row.number
 
--- The numbers of a poll in a result row, or `Damaged` if a number is out of its range.
+-- The numeric columns of a poll in a result row of a query, or `Damaged` if a number is out of the
+-- range that the store permits for its column.
 abbrev pub poll_in : Row → Result PollRow RowFault
 poll_in row =
     and_then (or_damaged (whole_in 1 greatest_place (column row 0))) (λ number.
@@ -133,7 +137,7 @@ IsOutcome o a = a ≡ o
 abbrev pub HasCode : Outcome → Type 0
 HasCode outcome = outcome_code outcome ≤ 255
 
--- True if every value of a row of `outcomes` is in its range.
+-- True if every value of a row of `outcomes` is in the range that the store permits for its column.
 pub record IsSoundOutcome (o : OutcomeRow) : Type 0 where
   pub poll : IsPlace o.poll
   pub moment : o.moment ≤ latest_moment
@@ -174,7 +178,8 @@ outcome_of number code =
     if number == 4 then malformed_of (malformation_of code) else
     if number == 5 then lost_by (lost_of code) else None
 
--- The outcome in a result row, or `Damaged` if a column is out of its range.
+-- The outcome of a poll in a result row, or `Damaged` if a column's value is out of the range that
+-- the store permits.
 abbrev pub outcome_in : Row → Result OutcomeRow RowFault
 outcome_in row =
     and_then (or_damaged (whole_in 1 greatest_place (column row 0))) (λ poll.
@@ -213,14 +218,14 @@ hold_place h = h.row.place
 abbrev pub hold_place_shown : Held → Row
 hold_place_shown h = Int (pos h.row.place) ∷ []
 
--- True if every value of a rejected reading is in its range. The predicate does not check the name
--- of the reading's meter.
+-- True if every value of a rejected reading is in the range that the store permits for its column.
+-- The predicate does not check the name of the reading's meter.
 pub record IsSoundHold (h : RejectedRow) : Type 0 where
   pub place : IsPlace h.place
   pub poll : IsPlace h.poll
   pub moment : h.moment ≤ latest_moment
 
--- True if every value of a row of `holds` is in its range.
+-- True if every value of a row of `holds` is in the range that the store permits for its column.
 abbrev pub IsSoundHeld : Held → Type 0
 IsSoundHeld h = IsSoundHold h.row
 
@@ -294,8 +299,8 @@ IsCallNumber number = number < 2 ^ 63
 abbrev pub repeat_as : CommandKind → (same : Bool) → Repeat
 repeat_as kind same = if same then Same kind else Other
 
--- True if a comparison with the stored request is correct: `Same` for a request with the stored
--- bytes, and `Other` for any other request.
+-- True if the comparison with the request that is stored under the same idempotency key is correct:
+-- `Same` if both requests have the same bytes, otherwise `Other`.
 abbrev pub IsRepeat : (request : List ℕ) → Kept → Repeat → Type 0
 IsRepeat request k a = a ≡ repeat_as k.kind (bytes_eq k.request request)
 
@@ -319,15 +324,16 @@ same_bytes bytes (Int n) = None
 same_bytes bytes Null = None
 same_bytes bytes (Real x) = None
 
--- The comparison of a request with the stored request in a result row (is it a retry?), or
--- `Damaged` if a column is invalid.
+-- The comparison of a request with the request that a result row stores under the same idempotency
+-- key (is it a retry?), or `Damaged` if a column is invalid.
 abbrev pub repeat_in : (request : List ℕ) → Row → Result Repeat RowFault
 repeat_in request row =
     and_then (or_damaged (same_bytes request (column row 0))) (λ same.
     and_then (or_damaged (kind_in (column row 1))) (λ kind.
     Ok (repeat_as kind same)))
 
--- Definitions of the queries for the latest timestamp of a table.
+-- Definitions for the queries that return the latest timestamp in a table of polls, outcomes,
+-- rejected readings or stored requests: the time in a row, and the result row.
 
 -- The time at which a poll started, in seconds since 1970-01-01 UTC.
 abbrev pub start_of : Started → ℕ
@@ -337,7 +343,7 @@ start_of p = p.row.started
 abbrev pub start_shown : Started → Row
 start_shown p = Int (pos p.row.started) ∷ []
 
--- True if the time that a query returned is the time at which this poll started.
+-- True if the time that a query returned is the time at which the given poll started.
 abbrev pub HasStart : Started → ℕ → Type 0
 HasStart p moment = moment ≡ p.row.started
 
@@ -350,7 +356,7 @@ outcome_moment o = o.moment
 abbrev pub outcome_moment_shown : OutcomeRow → Row
 outcome_moment_shown o = Int (pos o.moment) ∷ []
 
--- True if the time that a query returned is the time at which this outcome ended its poll.
+-- True if the time that a query returned is the time of the given outcome, when its poll ended.
 abbrev pub HasOutcomeMoment : OutcomeRow → ℕ → Type 0
 HasOutcomeMoment o moment = moment ≡ o.moment
 
@@ -363,7 +369,7 @@ hold_moment h = h.row.moment
 abbrev pub hold_moment_shown : Held → Row
 hold_moment_shown h = Int (pos h.row.moment) ∷ []
 
--- True if the time that a query returned is the timestamp of this rejected reading.
+-- True if the time that a query returned is the timestamp of the given rejected reading.
 abbrev pub HasHoldMoment : Held → ℕ → Type 0
 HasHoldMoment h moment = moment ≡ h.row.moment
 
@@ -371,11 +377,11 @@ HasHoldMoment h moment = moment ≡ h.row.moment
 abbrev pub reply_moment : Kept → ℕ
 reply_moment k = k.moment
 
--- The result row of the query for the latest stored request. The row has only the time of the
--- request's response.
+-- The result row of the query for the stored request with the latest response. The row has only the
+-- time of this response.
 abbrev pub reply_moment_shown : Kept → Row
 reply_moment_shown k = Int (pos k.moment) ∷ []
 
--- True if the time that a query returned is the time of the response to this stored request.
+-- True if the time that a query returned is the time of the response to the given stored request.
 abbrev pub HasReplyMoment : Kept → ℕ → Type 0
 HasReplyMoment k moment = moment ≡ k.moment

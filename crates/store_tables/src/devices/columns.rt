@@ -77,8 +77,8 @@ pub fn read_point(row: &Row) -> Result<Point, RowFault>
     })
 }
 
-/// Reads the scale of an accounting register (a named counter) from the column at index `at`. By
-/// `kind`, the column has a fixed factor or the Modbus address of the factor.
+/// Reads the scale of an accounting register (a named counter) from the column at index `at`.
+/// Depending on `kind`, the column has a fixed scale factor or the Modbus address of the factor.
 fn scale_at(row: &Row, kind: u64, at: usize) -> Result<RegisterScale, RowFault>
     ensures { result ≡ or_damaged (scale_of kind (column row.now at)) }
 {

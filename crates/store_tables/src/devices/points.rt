@@ -55,7 +55,7 @@ fn delete_points<S: Alter>(tx: &mut Transaction<'_, S>, device: &str) -> Result<
     tx.execute("DELETE FROM points WHERE device = ?1", params![device])
 }
 
-/// Inserts points into a device's point list one by one, without deleting the points that it has.
+/// Inserts points into a device's point list one by one. Points that are already in the list stay.
 fn insert_points<S: Alter>(
     tx: &mut Transaction<'_, S>,
     device: &str,
@@ -94,7 +94,8 @@ pub fn replace_points<S: Alter>(
     insert_points(tx, device, points)
 }
 
-/// Queries the points of a device's point list in order. Use `read_point` to decode each row.
+/// Queries the points of a device's point list in the order of the list. Use `read_point` to decode
+/// each row.
 pub fn point_rows<S: Alter>(conn: &mut Connection<S>, device: &str) -> Result<Vec<Row>, Error>
     ensures asks { Asks S.Store conn.old conn.new }
     ensures shows { ReportsRows S.Store conn.old conn.new trees.points point_columns result

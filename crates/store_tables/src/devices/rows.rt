@@ -3,8 +3,8 @@
 
 use mb_wire::ReadFunction;
 
-/// A Modbus device without its name, as the table `devices` stores it. The numbers are the settings
-/// of its polls.
+/// A Modbus device without its name, as the table `devices` stores it: its index, its unit
+/// identifier, and the settings of its polls.
 #[derive(Clone, Copy, PartialEq, Eq)]
 pub struct DeviceRow {
     /// The index of the device, from 1.
@@ -24,7 +24,8 @@ pub struct Device {
     pub row: DeviceRow,
 }
 
-/// A SunSpec point that a device is polled for, without its name, its type and its scale.
+/// A SunSpec point that a device is polled for, as the table `points` stores it, without its name,
+/// its type and its scale.
 #[derive(Clone, Copy, PartialEq, Eq)]
 pub struct PointRow {
     /// The index of the point in its point list, from 1.
@@ -55,8 +56,8 @@ pub enum RegisterScale {
     At(u16),
 }
 
-/// An accounting register (a named counter of a device) without its name and the name of its
-/// device.
+/// An accounting register (a named counter of a device) as the table `registers` stores it, without
+/// its name and the name of its device.
 #[derive(Clone, Copy, PartialEq, Eq)]
 pub struct RegisterRow {
     /// The index of the accounting register (a named counter), from 1.

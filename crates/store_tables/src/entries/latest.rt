@@ -1,6 +1,6 @@
 //! Queries for the latest timestamps of `entries` and `voids`, in seconds since 1970-01-01 UTC. The
-//! queries run when a database is opened, and scan a complete table, because no index has
-//! timestamps.
+//! queries run when a database is opened. Each query scans a complete table, because no SQLite
+//! index covers timestamps.
 ghost use Rattle.std.specs.Prelude.{◌≤◌, IfOk, IfSome};
 ghost use Rattle.store_tables.specs.Limits.{latest_moment};
 ghost use Rattle.store_tables.specs.Answer.{IsLast, LastFirst, every};
@@ -14,7 +14,7 @@ ghost use Rattle.store_tables.specs.Entries.Trees.{entries, voids};
 use crate::{LATEST_MOMENT, RowFault, first_whole};
 use sqlite::{Alter, Connection, Error, Row};
 
-/// Queries the latest timestamp of all entries.
+/// Queries the latest timestamp of all entries of all meters.
 fn entry_moments<S: Alter>(conn: &mut Connection<S>) -> Result<Vec<Row>, Error>
     ensures asks { Asks S.Store conn.old conn.new }
     ensures shows { ReportsRows S.Store conn.old conn.new entries entry_columns result

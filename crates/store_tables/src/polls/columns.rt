@@ -164,7 +164,8 @@ fn has_bytes(row: &Row, at: usize, bytes: &[u8]) -> Result<bool, RowFault>
     }
 }
 
-/// Compares the bytes of a request with the stored request in a result row, to detect a retry.
+/// Compares the bytes of a request with the request that a result row stores under the same
+/// idempotency key, to detect a retry.
 pub(crate) fn repeat(row: &Row, request: &[u8]) -> Result<Repeat, RowFault>
     ensures { result ≡ repeat_in request.now row.now }
 {

@@ -1,4 +1,4 @@
-//! Statements on the table `holds`, which stores the rejected readings.
+//! SQL statements on the table `holds`, which stores the rejected readings.
 ghost use Rattle.sqlite.specs.Held.{state};
 ghost use Rattle.store_tables.specs.Content.{Edits, with_row};
 ghost use Rattle.store_tables.specs.Steps.{Steps, IsSameBorrow};

@@ -79,7 +79,7 @@ pub fn latest_hold<S: Alter>(conn: &mut Connection<S>) -> Result<Option<u64>, Ro
     first_whole(&rows, 0, LATEST_MOMENT)
 }
 
-/// Queries the latest timestamp of all stored requests.
+/// Queries the latest timestamp of all accepted requests that the store keeps to detect retries.
 fn reply_rows<S: Alter>(conn: &mut Connection<S>) -> Result<Vec<Row>, Error>
     ensures asks { Asks S.Store conn.old conn.new }
     ensures shows { ReportsRows S.Store conn.old conn.new replies reply_columns result
@@ -91,7 +91,8 @@ fn reply_rows<S: Alter>(conn: &mut Connection<S>) -> Result<Vec<Row>, Error>
     )
 }
 
-/// Returns the latest timestamp of all stored requests, or None if no request is stored.
+/// Returns the latest timestamp of the responses that are stored for requests with idempotency
+/// keys, or None if no response is stored.
 pub fn latest_reply<S: Alter>(conn: &mut Connection<S>) -> Result<Option<u64>, RowFault>
     ensures finds { LooksUp S.Store conn.old conn.new replies reply_columns IsSoundKept result
         (IsLast every HasReplyMoment reply_moment) }

@@ -46,13 +46,13 @@ pub struct OutcomeRow {
 pub struct RejectedRow {
     /// The index of the rejected reading, from 1.
     pub place: u64,
-    /// The number of the poll that read the counter.
+    /// The number of the poll that read the counter's rejected value.
     pub poll: u64,
-    /// The time of the reading, in seconds since 1970-01-01 UTC.
+    /// The time of the rejected reading, in seconds since 1970-01-01 UTC.
     pub moment: u64,
     /// The counter's value in the rejected reading.
     pub raw: u32,
-    /// The scale factor of the counter's value: a power of ten.
+    /// The scale factor of the counter's value: the exponent of a power of ten.
     pub sf: i16,
     pub cause: Cause,
 }
@@ -60,9 +60,10 @@ pub struct RejectedRow {
 /// How a request compares with the request that is stored under its idempotency key.
 #[derive(Clone, Copy, PartialEq, Eq)]
 pub enum Repeat {
-    /// The request has the bytes of the stored request, so it is a retry. The variant has the kind
-    /// of the request's command.
+    /// The request has the same bytes as the request that is stored under its idempotency key, so
+    /// it is a retry. The variant has the kind of the request's command.
     Same(CommandKind),
-    /// The request has other bytes than the stored request.
+    /// The request that is stored under the same idempotency key has other bytes than the new
+    /// request.
     Other,
 }

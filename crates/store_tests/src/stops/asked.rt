@@ -1,5 +1,5 @@
-//! The requests that a test sends after its script of events: one exchanges the meter, and the
-//! other voids (cancels) the meter's reading.
+//! The requests that a test sends after its script of events: one replaces the meter, and the other
+//! voids (cancels) the meter's reading.
 
 /// A request that a test sends after a script of commands and device events.
 #[derive(Clone, Copy, Debug)]
@@ -24,7 +24,7 @@ const VOID_DONE: &[u8] =
 pub(crate) const UNAVAILABLE: &[u8] =
     b"HTTP/1.1 503 Service Unavailable\r\nContent-Type: application/json\r\nContent-Length: 14\r\nConnection: close\r\n\r\n{\"refused\":13}";
 
-/// Returns the bytes of the HTTP request.
+/// Returns the bytes of an HTTP request that a test sends.
 pub(crate) fn request_of(asked: Asked) -> &'static [u8] {
     match asked {
         Asked::Exchange => EXCHANGE,
@@ -32,7 +32,7 @@ pub(crate) fn request_of(asked: Asked) -> &'static [u8] {
     }
 }
 
-/// Returns the HTTP response to a request that was executed.
+/// Returns the HTTP response to a test's request that was executed.
 pub(crate) fn reply_of(asked: Asked) -> &'static [u8] {
     match asked {
         Asked::Exchange => EXCHANGE_DONE,

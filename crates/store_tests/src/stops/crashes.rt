@@ -7,9 +7,9 @@ use sqlite_disk::{Fuse, Memory};
 use std::alloc::Global;
 use std::process::Abort;
 
-/// A task that is interrupted by crashes, with its number of steps. For each count in `after`, the
-/// test must have a crash at which exactly this many steps had succeeded. The task makes more than
-/// `calls` calls to the write-ahead log.
+/// A task that the test interrupts by crashes, with its number of steps. For each number of steps
+/// in `after`, the test must have a crash at which exactly this many steps had succeeded. The task
+/// makes more than `calls` calls to the write-ahead log.
 struct Case {
     act: Act,
     steps: usize,
@@ -18,7 +18,7 @@ struct Case {
 }
 
 // The tasks that the test interrupts by crashes. In the last two tasks, the first step creates the
-// tables. The fifth step connects the device, and records nothing.
+// tables, and the fifth step connects the device and records nothing.
 static CASES: [Case; 3] = [
     Case {
         act: Act::Bring,
@@ -40,7 +40,7 @@ static CASES: [Case; 3] = [
     },
 ];
 
-/// Returns the database files in their state before a task begins.
+/// Returns the database files in their state before a test's task begins.
 fn given(rt: &impl Abort, alloc: Global, act: Act) -> Files<Fuse<Memory>> {
     let empty = empty_files(rt, alloc);
     match act {
@@ -97,8 +97,8 @@ fn stop_each(
     panic!(rt; "it stops each time")
 }
 
-/// Returns true if, for each count in `after`, some crash occurred when exactly this many steps of
-/// the task had succeeded.
+/// Returns true if, for each number of steps in `after`, some crash occurred when exactly this many
+/// steps of the task had succeeded.
 fn each_came_up(after: &[usize], stops: &[usize]) -> bool {
     for steps in after {
         if !stops.contains(steps) {

@@ -22,7 +22,8 @@ INSERT INTO entries SELECT 'm1', 1 + poll, 2, started + 2, 5100 + 100 * poll, 0,
 INSERT INTO intervals SELECT 'm1', started - 98, 100000 FROM polls WHERE 1 < poll AND poll < 97;
 INSERT INTO intervals VALUES ('m1', 88200, 11112)";
 
-/// SQL statements that turn a file of version 3 into a file of version 1.
+/// SQL statements that turn a database file with the tables of version 3 into a file with the
+/// tables of version 1.
 pub(crate) const FIRST: &str = "DROP TABLE voids; DROP TABLE ranges; UPDATE meta SET version = 1";
 
 /// Queries about the rows of a test file of any version, each with the number that the query

@@ -49,7 +49,8 @@ pub(crate) fn files(
     }
 }
 
-/// Opens a connection to a database in these files, or returns the files if the connection fails.
+/// Opens a connection to a database in the given files, or returns the files if the connection
+/// fails.
 pub(crate) fn connected(
     alloc: Global,
     files: Files<Fuse<Memory>>,

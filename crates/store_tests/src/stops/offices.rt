@@ -81,8 +81,8 @@ pub(crate) fn accepts<B: Books>(
     }
 }
 
-/// Returns true if the response to the request reports success. Any other response must report that
-/// the store failed.
+/// Returns true if the HTTP response to the test's request reports success. Any other response must
+/// report that the store failed.
 pub(crate) fn acknowledges<B: Books>(
     rt: &impl Abort,
     alloc: Global,

@@ -116,7 +116,8 @@ static VOIDED_ROWS: [(&str, i64); 5] = [
     ("SELECT count(*) FROM replies", 1),
 ];
 
-/// Returns true if each query returns the expected number for the given state of the database file.
+/// Returns true if each query of the table `STATES` returns the expected number for the given state
+/// of the database file.
 fn is_in_state<S: Alter>(rt: &impl Abort, connection: &mut Connection<S>, state: usize) -> bool {
     for (query, numbers) in &STATES {
         let is_shown = match numbers.get(state) {
@@ -151,7 +152,7 @@ fn may_be_recorded<S: Alter>(
     is_acknowledged || is_in_state(rt, connection, next)
 }
 
-/// Asserts that the store recorded the request exactly once.
+/// Asserts that the store recorded the test's HTTP request exactly once.
 fn assert_recorded_once<S: Alter>(rt: &impl Abort, connection: &mut Connection<S>, asked: Asked) {
     match asked {
         Asked::Exchange => shows(rt, connection, &EXCHANGED_ROWS),

@@ -1,12 +1,13 @@
-//! Upgrades a file of version 1 by opening it, and asserts which rows the file has after a crash.
+//! Upgrades a database file of version 1 by opening it. If the program crashes during the upgrade,
+//! asserts which rows the file then has.
 use crate::stops::day::{DAY, FIRST, NEW, OLD, READ, ROWS};
 use crate::stops::shown::{fault, number, shows};
 use sqlite::{Alter, Connection};
 use std::process::Abort;
 use store_tables::{create, open};
 
-/// Creates a file of version 1 in an empty database. Returns 1 (the task has one step, which
-/// succeeded) and the store.
+/// Creates a database file of version 1 (an old table layout) in an empty database. Returns 1 (the
+/// task has one step, which succeeded) and the store.
 pub(crate) fn prepare<S: Alter + Drop>(rt: &impl Abort, mut conn: Connection<S>) -> (usize, S) {
     if create(&mut conn, "UTC0").is_err() {
         panic!(rt; "not made");

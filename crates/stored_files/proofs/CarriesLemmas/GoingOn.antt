@@ -23,8 +23,8 @@ use Rattle.carried_books.specs.declared.carrying.faults.CarryFault.{CarryFault}
 use Rattle.stored_files.specs.Carries.GoingOn.{GoesOn, GoesOnFrom, GoesOnIn, IsCarriedInto}
 use Rattle.stored_files.specs.Carries.ReportedZone.{ReportsZone}
 
--- If a file rollover (the continuation of all open meters in a new database) executes its commands
--- on a new store, the store's history consists of these commands.
+-- If a file rollover (the continuation of all open meters in a new database) executes the
+-- rollover's commands on a new store, the new store's history consists of these commands.
 pub goes_on : {O N : Type 0} (of_old : O → Ledger) (of_new : N → Ledger) (old asked : O) (until : Option ℕ) (before after : Office N) (result : Result ℕ CarryFault)
     → StandsIfClean of_new (Opened 0 ∷ []) before → Carries (of_old old) (of_old asked) until of_new before after result
     → OnlyAsked (of_old old) (of_old asked) result → Passes of_new before after → IfOk result (GoesOn of_old of_new old until)
@@ -54,7 +54,8 @@ goes_on_from g old facts its zone until new books (Ok meters) clean holds it = r
 }
 goes_on_from g old facts its zone until new books (Err why) clean holds it = tt
 
--- Lemmas on reading the time zone of a database file before its open meters continue in a new file.
+-- Lemmas: reading the time zone of a database file, before its open meters continue in a new file,
+-- changes no record of the file.
 
 -- After the time zone of a file is read, the file has the same records as before.
 pub still_has : {S Z : Type 0} (g : Ghosts S) (old new : Held S) (zone : List ℕ) (facts : List Fact) (reported : String Z) → HasFile g zone old facts

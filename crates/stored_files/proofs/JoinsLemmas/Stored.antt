@@ -1,4 +1,4 @@
--- Lemmas on merging the reports on several successive database files.
+-- Lemmas on merging the reports on several successive database files into one report.
 use Rattle.std.proofs.Common.{◌≡◌, ℕ, List, [], Result, Ok, Err, IfOk, Option, Some, None, refl, sym, subst, ◌∙◌}
 use Rattle.std.specs.Prelude.{◌≢◌, IfErr, string_bytes}
 use Rattle.sqlite.specs.Store.{Ghosts}
@@ -16,8 +16,8 @@ use Rattle.stored_files.specs.declared.joins.stored.JoinFault.TheVariants as fau
 use Rattle.stored_files.specs.declared.joins.stored.JoinedOffice.{JoinedOffice}
 
 module _ {K : Type 0} (k : keepings.Ghosts K) (range : DayRange) (register : List ℕ) (facts : List Fact) where
-  -- Adding a file to the data of a merged report satisfies its contract (`JoinsNext`), both for an
-  -- empty report and for a report on earlier files.
+  -- Adding a file to the data of a merged report (one report on several database files) satisfies
+  -- `JoinsNext`, the contract of this step. The report may be empty, or cover earlier files.
   pub next_joins : (zone : List ℕ) (before : Option (JoinedOffice K)) (kept : K) (new : JoinedOffice K)
       → AreBefore k zone range before kept → JoinsOne k range register facts kept new.kept → JoinsNext k zone range register facts before new
   next_joins zone None kept new are joins = (are.0, are.1, joins are.0 [] (are.2 register))
@@ -25,8 +25,8 @@ module _ {K : Type 0} (k : keepings.Ghosts K) (range : DayRange) (register : Lis
       joins its files (subst (λ (those : K). k.keeps its range register files those) (sym are) has)
 
   module _ {S : Type 0} (g : Ghosts S) where
-    -- A merged report to which a store's data were added has the data of the database file from
-    -- which the store was opened.
+    -- A merged report (one report on several database files) to which a store's data were added has
+    -- the data of the database file from which the store was opened.
     pub joins_file : (old : Held S) (its : List ℕ) (kept : K) (books : SqlBooks S g) (result : Result K JoinFault)
         → (HasCleanDisk (state g books.connection) → HasCleanDisk (state g old)) → HoldsAlone g its books.connection facts
         → IfOk result (JoinsBooks k (ledger_beneath g) books range register kept) → IfOk result (JoinsFile k g old range register facts kept)
@@ -77,7 +77,9 @@ module _ {K : Type 0} (k : keepings.Ghosts K) (range : DayRange) (register : Lis
       parts = it.parts;
     }
 
-    -- Lemmas on reading the time zone of a database file before adding the file to a merged report.
+    -- Lemmas: reading the time zone of a database file, and then adding the file to a merged
+    -- report, together satisfy the contract of adding a file. This holds whether the file is added
+    -- or refused.
 
     module _ (old mid : Held S) (reported zone : List ℕ) (before : Option (JoinedOffice K)) (cleans : HasCleanDisk (state g mid) → HasCleanDisk (state g old))
         (is : HasCleanDisk (state g mid) → reported ≡ zone) where

@@ -14,8 +14,8 @@ use Rattle.office_books.specs.Lawfulness.{IsPast}
 use Rattle.store_tables.specs.declared.layouts.Layout.{Layout}
 use Rattle.office_store.specs.Laws.Files.{HasFactsIn}
 
--- States that opening a database with these B-trees finds the records of the accepted events
--- `past`. Any program version may have created the tables.
+-- States that opening a database whose tables and indices are the B-trees `trees` finds the records
+-- of the accepted events `past`. Any program version may have created the tables.
 pub record TreesHavePast (trees : Trees) (past : History) : Type 0 where
   pub zone : List ℕ
   pub is_past : IsPast past

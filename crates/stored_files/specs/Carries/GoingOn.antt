@@ -22,8 +22,9 @@ abbrev pub set_up_by : List TimedCommand → History
 set_up_by commands = history_with (Opened 0 ∷ []) commands
 
 -- States that the open meters of an old store continue in a new store. The old store was only
--- queried. The commands, which install `meters` meters, follow from the old store's records. The
--- new store was opened at time 0, and accepted only these commands.
+-- queried. The commands set up the old store's devices, and install each of its `meters` open
+-- meters at the meter's last entry up to `until`. The new store was opened at time 0, and accepted
+-- only these commands.
 pub record GoesOn {O N : Type 0} (of_old : O → Ledger) (of_new : N → Ledger) (old : O)
     (until : Option ℕ) (meters : ℕ) : Type 0 where
   pub asked : O
@@ -42,7 +43,7 @@ module _ {S : Type 0} (g : Ghosts S) where
     pub goes_on : GoesOn of_old (ledger_beneath g) old until meters
 
   -- States that the open meters of an old store continue in a new store, and that both stores are
-  -- in databases. The file of the old store has the records `facts`.
+  -- in SQLite databases. The records in the old store's file are `facts`.
   pub record GoesOnFrom (old : Held S) (facts : List Fact) (zone : List ℕ) (until : Option ℕ)
       (new : Held S) (meters : ℕ) : Type 0 where
     pub asked : SqlBooks S g
@@ -54,9 +55,9 @@ module _ {S : Type 0} (g : Ghosts S) where
     pub stands : StandsIfClean (ledger_beneath g) (set_up_by commands) office
 
   -- States that the open meters in the records `facts` of an old database continue in a new
-  -- database with the same time zone. The new database accepted only commands that follow from
-  -- `facts` and install `meters` meters. The statement assumes that the disks returned what was
-  -- written to them.
+  -- database with the same time zone. The new database accepted only commands that set up the
+  -- devices in `facts` and install each of the `meters` open meters. The statement assumes that the
+  -- disks returned what was written to them.
   pub record IsCarriedInto (facts : List Fact) (zone : List ℕ) (until : Option ℕ)
       (new : Held S) (meters : ℕ) : Type 0 where
     pub asked : SqlBooks S g

@@ -21,12 +21,12 @@ ending_number (NoSeal file) = 2
 ending_number (Twice file) = 2
 ending_number (Failed failure) = 3
 
--- True if a message on standard error reports this ending. Only endings with an exit status greater
--- than 1 have such a message, not success (0) or a refusal (1).
+-- True if a message on standard error reports how the command ended. Only endings with an exit
+-- status greater than 1 have such a message, not success (0) or a refusal (1).
 abbrev pub IsReported : Ending → Type 0
 IsReported ending = 1 < ending_number ending
 
--- The ending of a command with this exit status. Here, the status `Failed` means that standard
+-- How a command with the given exit status ended. Here, the status `Failed` means that standard
 -- input or standard output failed, or that memory ran out.
 abbrev pub ending_of : ExitStatus → Ending
 ending_of status.Fine = Fine

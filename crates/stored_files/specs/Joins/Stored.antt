@@ -22,8 +22,8 @@ IsOfZone zone before =
     MatchOption before (Unit {0}) (λ joined. string_bytes joined.zone ≡ zone)
 
 module _ {K : Type 0} (k : keepings.Ghosts K) where
-  -- States that `kept` is the data of a merged report on the files so far. Before the first file,
-  -- this is the data of an empty report in the time zone `zone`.
+  -- States that `kept` is the data of a merged report on the files that were added to it. Before
+  -- the first file, this is the data of an empty report in the time zone `zone`.
   abbrev pub AreBefore : (zone : List ℕ) → DayRange → Option (JoinedOffice K) → K → Type 0
   AreBefore zone range None kept = (its : Zone) × HasRule zone its
       × ((register : List ℕ) → k.keeps its range register [] kept)
@@ -56,7 +56,8 @@ module _ {K : Type 0} (k : keepings.Ghosts K) where
         → JoinsOne range register known old new
 
   -- States why a file with the records `facts` can't be added to a merged report of several files.
-  -- Of the reasons `why`, only `Unjoined` states something about the records.
+  -- It states something only for the reason `Unjoined`: the records don't continue the earlier
+  -- files.
   abbrev pub Parts : DayRange → (register : List ℕ) → (facts : List Fact) → K → JoinFault → Type 0
   Parts range register facts kept (fault.Unjoined why) = k.parts range register facts kept why
   Parts range register facts kept why = Unit {0}
@@ -130,8 +131,8 @@ module _ {K : Type 0} (k : keepings.Ghosts K) where
         IsRefused old zone range register facts before (fault.Unjoined why)
     RefusesIn old zone range register facts before (fault.Books why) = Unit {0}
 
-    -- States that, if the disk returned what was written to it, then the file has another time zone
-    -- than the earlier files.
+    -- States that a database file has another time zone than the earlier files of a merged report,
+    -- if the disk returned what was written to it.
     pub record IsElsewhere (zone : List ℕ) (before : Option (JoinedOffice K)) : Type 0 where
       pub left : Held S
       pub other : HasCleanDisk (state g left) → IsOfZone zone before → ⊥

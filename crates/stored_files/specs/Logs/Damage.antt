@@ -23,8 +23,10 @@ IsOpen page_size log k = slice_index log (frame_at page_size k + 8) ≡ slice_in
 
 -- States that a transaction begins at frame `i`, but that recovery ends earlier, at frame `k`. A
 -- transaction begins only after the previous one is on the disk. The transaction at frame `k` was
--- therefore complete, and was damaged later. If the first salt byte of frame `k` differs from the
--- log header's, frame `i` must be a count frame (an extra frame of a commit).
+-- therefore complete, and was damaged later. One of two facts must confirm this. Either the first
+-- salt byte of frame `k`, which a commit without a count frame writes last, equals that of the
+-- log's header. Or frame `i` is a count frame (an extra first frame that counts the zero bytes of a
+-- commit).
 pub record IsCutOff (page_size : ℕ) (log : List ℕ) (k i : ℕ) : Type 0 where
   pub behind : k < i
   pub begins : Begins page_size log i
@@ -36,8 +38,8 @@ pub record LosesFrom (page_size : ℕ) (log : List ℕ) (k : ℕ) : Type 0 where
   pub taken : Replays page_size log k
   pub lost : (i : ℕ) × IsCutOff page_size log k i
 
--- States that SQLite's recovery replays every transaction that was on the disk, as far as the bytes
--- of the write-ahead log can show.
+-- States that SQLite's recovery loses no transaction that the bytes of the write-ahead log show: no
+-- other transaction follows the frames that recovery replays (`IsCutOff`).
 pub record IsWhole (page_size : ℕ) (log : List ℕ) : Type 0 where
   pub head : IsHeader page_size (header log)
   pub taken : ℕ

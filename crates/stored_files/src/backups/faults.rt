@@ -10,26 +10,26 @@ use std::fmt::{Display, Formatter};
 /// A reason why a database file can't be copied.
 #[derive(Clone, Copy, Debug, PartialEq, Eq)]
 pub enum CopyFault {
-    /// A file with the name of the copy, or of its log, exists already.
+    /// A file with the name of the backup copy, or of the copy's write-ahead log, exists already.
     Exists,
     /// A backup to the same file name is still running, or was interrupted and left a `.part` file.
     Unfinished,
-    /// The name of the copy has a reserved suffix: -wal, -journal, -shm or .part.
+    /// The file name of the backup copy has a reserved suffix: -wal, -journal, -shm or .part.
     Reserved,
-    /// The copy can't be opened or written.
+    /// The backup copy of the database file can't be opened or written.
     Unwritable,
-    /// At each attempt to copy, another process merged the log into the original file during the
-    /// copying.
+    /// At each attempt to copy the database file, another process merged the write-ahead log into
+    /// this file during the copying.
     Changing,
-    /// The copy is not a database, or its database is damaged.
+    /// The backup copy is not a database, or its database is damaged.
     Torn,
-    /// The copy does not have the tables of `sunreg`.
+    /// The backup copy does not have the tables of `sunreg`.
     NotOurs,
     Memory,
 }
 
-// Writes the reason why a file can't be copied, and what the user can do. The program prints this
-// text after the name of the file.
+// Writes the reason why a database file can't be copied, and what the user can do. The program
+// prints this text after the name of the file.
 impl Display for CopyFault {
     fn fmt<W: fmt::Write>(&self, f: &mut Formatter<W>) -> fmt::Result {
         f.write_str(match self {
@@ -50,8 +50,9 @@ impl Display for CopyFault {
     }
 }
 
-/// Maps a fault of opening a copied database to a `CopyFault`. The original file's log was checked
-/// earlier. Damage in the copy's log therefore means that a commit was written during the copying.
+/// Maps a fault of opening a copied database to a `CopyFault`. The write-ahead log of the original
+/// file was checked earlier. Damage in the copy's log therefore means that a commit was written
+/// during the copying.
 pub(crate) fn copy_fault_of(fault: FileFault) -> CopyFault
     ensures { result ≡ copy_fault_of fault }
 {
@@ -65,8 +66,8 @@ pub(crate) fn copy_fault_of(fault: FileFault) -> CopyFault
     }
 }
 
-/// Maps an SQLite error to a `CopyFault`. The error occurred while a copy's log was merged into the
-/// copy.
+/// Maps an SQLite error to a `CopyFault`. The error occurred while the write-ahead log of a copied
+/// database file was merged into the copy.
 pub(crate) fn close_fault_of(error: Error) -> CopyFault
     ensures { result ≡ close_fault_of error }
 {

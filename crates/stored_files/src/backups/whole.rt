@@ -68,8 +68,8 @@ pub fn recovered_file<S: Start>(
     }
 }
 
-/// Merges the write-ahead log beside the file at a path into the file, as `recovered_file` does.
-/// Fails if the log has lost commits.
+/// Merges the write-ahead log beside the file at a path into the file. Unlike `recovered_file`,
+/// fails if the log has lost commits.
 pub fn whole_file<S: Start>(
     rt: &HostRuntime,
     path: &str,

@@ -20,9 +20,11 @@ use std::alloc::Global;
 /// A reason why a file rollover, which begins a new database, was not completed.
 #[derive(Clone, Copy)]
 pub enum CarryEnd {
-    /// The store in the old database could not be opened.
+    /// The store in the old database of a file rollover (the change to a new database file) could
+    /// not be opened.
     Unopened(OpenFault),
-    /// The tables of the new database could not be created.
+    /// The tables of the new database of a file rollover (the change to a new database file) could
+    /// not be created.
     Unmade(OpenFault),
     /// The file rollover (the continuation of all open meters in a new database) began, but was not
     /// completed.

@@ -33,7 +33,7 @@ fn zone_rows<S: Alter>(connection: &mut Connection<S>) -> Result<Vec<Row>, Error
     connection.query_all("SELECT zone FROM meta", &[])
 }
 
-// Reads the text of the time zone from a result row.
+// Reads the text of the time zone from a result row of the query for a database file's time zone.
 fn zone_of(row: &Row) -> Result<String, OpenFault>
     ensures { (m : Meta) → row.now ≡ zone_shown m
         → IfOk result (λ zone. string_bytes zone ≡ m.zone) }
@@ -45,8 +45,8 @@ fn zone_of(row: &Row) -> Result<String, OpenFault>
     }
 }
 
-// Reads the text of the time zone from the rows of the query's result. Fails unless there is
-// exactly one row.
+// Reads the text of the time zone from all result rows of the query for a database file's time
+// zone. Fails unless there is exactly one row.
 fn zone_in(rows: &[Row]) -> Result<String, OpenFault>
     ensures { (m : Meta) → rows.now ≡ zone_shown m ∷ []
         → IfOk result (λ zone. string_bytes zone ≡ m.zone) }

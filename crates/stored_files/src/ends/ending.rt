@@ -11,7 +11,8 @@ use std::io::Write;
 #[derive(Drop)]
 pub enum Ending<'a> {
     Fine,
-    /// The input is wrong, or the rules refused the input. The output states the reason.
+    /// The command's input is wrong, or the program's rules refused the input. The output of the
+    /// command states the reason.
     Refused,
     /// The arguments of the command are wrong. The text is the message with the reason.
     Wrong(String),
@@ -32,7 +33,7 @@ pub enum Ending<'a> {
 }
 
 impl<'a> Ending<'a> {
-    /// Returns the exit status of the process.
+    /// Returns the exit status, from 0 to 3, of the process whose command has this ending.
     pub fn number(&self) -> u8
         ensures { result ≡ ending_number self.now }
     {
@@ -47,8 +48,8 @@ impl<'a> Ending<'a> {
     }
 }
 
-/// Maps the exit status of a command to its ending. Here, the status `Failed` means that standard
-/// input or standard output failed, or that memory ran out.
+/// Returns how a command ended (with success, a refusal or a failure), by the command's exit
+/// status. The status `Failed` means that standard input or output failed, or that memory ran out.
 pub fn ending_of(status: ExitStatus) -> Ending<'static>
     ensures { result ≡ ending_of status }
 {

@@ -24,7 +24,7 @@ pub enum Failure<'a> {
     Loopback,
     /// The HTTP server could not accept another connection.
     Listening,
-    /// The database in the file could not be opened, or its log is damaged.
+    /// The database in the file could not be opened, or its write-ahead log is damaged.
     File {
         path: &'a str,
         fault: FileFault,
@@ -48,7 +48,7 @@ pub enum Failure<'a> {
     Bare {
         path: &'a str,
     },
-    /// The file is missing or empty, although its write-ahead log is not.
+    /// The database file is missing or empty, although its write-ahead log has bytes.
     LogAlone {
         path: &'a str,
     },
@@ -57,12 +57,12 @@ pub enum Failure<'a> {
     Undamaged {
         path: &'a str,
     },
-    /// The file could not be copied.
+    /// The database file could not be copied.
     Uncopied {
         path: &'a str,
         fault: CopyFault,
     },
-    /// The file could not be audited.
+    /// The database file could not be audited.
     Unaudited {
         path: &'a str,
         fault: AuditFault,
@@ -212,7 +212,7 @@ impl<'a> Display for Failure<'a> {
 impl<'a> Error for Failure<'a> {}
 
 // Returns the part of a message that says why the tables for metering records could not be created,
-// and what to do.
+// and what the user can do.
 fn why_unmade(fault: OpenFault) -> &'static str {
     match fault {
         OpenFault::NotOurs => "already has tables: skip create, or choose another file",
@@ -223,8 +223,8 @@ fn why_unmade(fault: OpenFault) -> &'static str {
     }
 }
 
-// Returns the part of a message that says why the metering records could not be opened, and what to
-// do.
+// Returns the part of a message that says why the metering records could not be opened, and what
+// the user can do.
 fn why_unopened(fault: OpenFault) -> &'static str {
     match fault {
         OpenFault::NotOurs =>
@@ -236,8 +236,8 @@ fn why_unopened(fault: OpenFault) -> &'static str {
     }
 }
 
-// Returns the name of the table whose definition differs, if this is why a file could not be
-// audited.
+// Returns the name of the table whose definition differs from the program's, if this difference is
+// why a database file could not be audited.
 fn other_table(fault: AuditFault) -> Option<&'static str> {
     match fault {
         AuditFault::Schema(fault) => fault.table(),
@@ -245,7 +245,8 @@ fn other_table(fault: AuditFault) -> Option<&'static str> {
     }
 }
 
-// Returns the part of a message that says why a file could not be audited, and what to do.
+// Returns the part of a message that says why a database file could not be audited, and what the
+// user can do.
 fn why_unaudited(fault: AuditFault) -> &'static str {
     match fault {
         AuditFault::NotOurs =>

@@ -10,8 +10,8 @@ use sqlite_wal::PageSize;
 use std::fs::{self, File};
 use std::io::{self, ErrorKind, Read};
 
-/// The maximum number of bytes of a log that the check reads: 1 GiB. Checkpoints keep a log much
-/// shorter.
+/// The maximum number of bytes of a write-ahead log that the check for lost commits reads: 1 GiB.
+/// Checkpoints keep a log much shorter.
 const MOST_LOG: u64 = 1_073_741_824;
 
 /// The length of a database file's header, in bytes.
@@ -84,7 +84,7 @@ pub(crate) fn page_size_in(db: &[u8]) -> Option<PageSize>
     PageSize::new(if named == 1 { 65536 } else { named })
 }
 
-// Checks the log of a database file whose page size is `size`, for lost commits.
+// Checks the write-ahead log of a database file whose page size is `size`, for lost commits.
 fn check_log_for(rt: &HostRuntime, path: &str, log: &[u8], size: PageSize) -> Result<(), FileFault>
     ensures { IfErr result (λ fault. fault ≢ FileFault.Missing) }
 {
@@ -117,11 +117,11 @@ fn check_once(rt: &HostRuntime, path: &str) -> Result<(), FileFault>
     }
 }
 
-/// Checks that opening the database file at a path loses no commit in its log. While another
-/// process writes, a check may find damage that does not exist. If the function finds damage, it
-/// therefore checks again. It reports damage only if both checks find the same damage, and `Busy`
-/// if they find different damage. At the second check, everything written before the first check is
-/// in the files.
+/// Checks that opening the database file at a path loses no commit in its write-ahead log. While
+/// another process writes, a check may find damage that does not exist. If the function finds
+/// damage, it therefore checks again. It reports damage only if both checks find the same damage,
+/// and `Busy` if they find different damage. At the second check, everything written before the
+/// first check is in the files.
 pub fn check_beside(rt: &HostRuntime, path: &str) -> Result<(), FileFault>
     ensures { IfErr result (λ fault. fault ≢ FileFault.Missing) }
 {

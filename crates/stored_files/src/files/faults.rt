@@ -26,7 +26,8 @@ pub enum FileFault {
 }
 
 impl FileFault {
-    /// Returns the numeric code of the fault, from 1. The program never prints this code.
+    /// Returns the numeric code of a fault of opening a database file, from 1. The program never
+    /// prints this code.
     pub fn number(self) -> u8
         ensures { result ≡ file_fault_number self }
     {

@@ -24,8 +24,8 @@ pub trait Databases {
 
     type Store: Alter + Drop;
 
-    /// True if opening the file at a path may give this connection. For the files of the operating
-    /// system it is always true, because no contract says which bytes such a file has.
+    /// True if opening the database file at a path may give this connection. For files of the
+    /// operating system, this is always true, because no contract says which bytes such a file has.
     ghost opens: { Self → List ℕ → Held Self.Store → Type 0 };
 
     /// Opens the database at a path, and creates it if it does not exist.

@@ -1,4 +1,5 @@
-//! Merges the reports on several successive database files. Only one file is open at a time.
+//! Makes one merged report on an accounting register (a named counter) from several successive
+//! database files. Only one file is open at a time.
 ghost use Rattle.std.specs.Prelude.{◌≡◌, ◌≢◌, ◌↔◌, ℕ, List, Err, IfErr, IfOk, IsTrue, string_bytes};
 ghost use Rattle.office_events.specs.declared.facts.Fact.{Fact};
 ghost use Rattle.office_books.specs.History.{History, facts_of};
@@ -33,14 +34,16 @@ pub enum JoinFault {
     Books(Refusal),
 }
 
-/// The data of a merged report on the files so far, and the time zone of these files as text.
+/// The data of a merged report on the files that were added to it, and the time zone of these files
+/// as text.
 #[derive(Drop)]
 pub struct JoinedOffice<K> {
     pub zone: String,
     pub kept: K,
 }
 
-// Returns whether a file with the time zone `zone` may follow the earlier files of a merged report.
+// Returns whether a file with the time zone `zone` may be added to a merged report: the earlier
+// files have this time zone, or there are no earlier files.
 fn is_of_zone<K>(zone: &str, before: &Option<JoinedOffice<K>>) -> bool
     ensures { IsTrue result ↔ IsOfZone zone.now before.now }
 {
@@ -50,8 +53,8 @@ fn is_of_zone<K>(zone: &str, before: &Option<JoinedOffice<K>>) -> bool
     }
 }
 
-// Returns the data of a merged report so far. Before the first file, returns the data of an empty
-// report in the time zone `zone`.
+// Returns the data of a merged report on the files that were added to it. Before the first file,
+// returns the data of an empty report in the time zone `zone`.
 fn kept_before<K: Keeping>(
     alloc: Global,
     zone: &str,

@@ -9,7 +9,7 @@ use sqlite_wal::checksum_of;
 /// The length of a write-ahead log's header, in bytes.
 pub(crate) const HEADER_LEN: usize = 32;
 
-/// The length of a frame's header, in bytes.
+/// The length of the header of a frame in a write-ahead log, in bytes.
 pub(crate) const FRAME_HEADER_LEN: usize = 24;
 
 /// The version number of the write-ahead log format.
@@ -101,8 +101,8 @@ pub(crate) fn frame_in(log: &[u8], page_size: usize, i: usize) -> &[u8]
     &log[at..at + FRAME_HEADER_LEN + page_size]
 }
 
-/// Returns whether frame `i` of a write-ahead log is valid and begins a transaction, directly after
-/// the last frame of an earlier transaction.
+/// Returns whether frame `i` of a write-ahead log begins a transaction: SQLite accepts the frame,
+/// and the frame before it is the last frame of a transaction.
 pub(crate) fn begins(log: &[u8], page_size: usize, i: usize) -> bool
     requires first { 0 < i }
     requires size { page_size ≤ 65536 }

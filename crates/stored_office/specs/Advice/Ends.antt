@@ -1,4 +1,5 @@
--- Defines which results of a task lead to further messages on standard error.
+-- Defines which results of a command's task, such as a round of polls, lead to further messages on
+-- standard error.
 use Rattle.std.specs.Prelude.{Bool, true, false, Result, Ok, Err}
 use Rattle.command_io.specs.declared.status.ExitStatus.{ExitStatus}
 use Rattle.command_io.specs.declared.status.ExitStatus.TheVariants as status
@@ -24,15 +25,15 @@ is_refusal status.Refused = true
 is_refusal _ = false
 
 -- True if explanatory messages on standard error follow a round of polls. They follow if the round
--- was completed, or if the office (the part that checks and records events) refused to open or to
--- poll. Any other failure has its own message.
+-- was completed, or if the office (the part that checks and records events) refused to start or
+-- refused a poll. Any other failure has its own message.
 abbrev pub has_messages : PollEnd → Bool
 has_messages (Polled done) = is_finished done
 has_messages (Unopened why) = is_refusal why
 has_messages Unconnected = false
 
--- True if a task that serves HTTP ended because the office, which checks and records all events,
--- refused to open.
+-- True if a task that serves HTTP ended because the office (the part that checks and records
+-- events) refused to start.
 abbrev pub is_refused_serving : ServeEnd → Bool
 is_refused_serving serving.Served = false
 is_refused_serving (serving.Unopened why) = is_refusal why

@@ -7,13 +7,15 @@ use Rattle.run_http.specs.Status.Advice.Lacks.{lacks_of}
 use Rattle.run_http.specs.Status.Advice.Sentences.{with_lack}
 use Rattle.run_http.specs.declared.status.advice.lacks.DeviceLack.{DeviceLack}
 
--- The text with a line appended for each missing part of a device's setup, in order.
+-- The text with a line appended for each missing part of a device's setup, in the order of the list
+-- of missing parts.
 abbrev pub with_lacks : List DeviceLack → List ℕ → List ℕ
 with_lacks [] text = text
 with_lacks (lack ∷ lacks) text = with_lacks lacks (with_lack lack text)
 
--- States that, if no wrong result of the store was used, a successful function call appends lines
--- to a text. There is one line for each part of the device's setup that is missing in the store.
+-- States that a successful function call appends lines to a text: one line for each part of the
+-- device's setup that is missing in the store. Nothing is stated if the store returned a wrong
+-- result that was used.
 abbrev pub PutsLacks : {T E : Type 0} → (old new : Ledger) → (device : Option (List ℕ))
     → (before after : List ℕ) → Result T E → Type 0
 PutsLacks old new device before after result = (known : List Fact) → old.holds known

@@ -1,4 +1,5 @@
--- Defines the explanations of the lines that a round of polls printed.
+-- Defines the explanations of the refusals and rejected readings in the lines that a round of polls
+-- printed.
 use Rattle.std.specs.Prelude.{◌≡◌, ℕ, ◌==◌, Bool, true, false, not, List, [], ◌∷◌, Option, Some, None}
 use Rattle.command_io.specs.Lines.{Line}
 use Rattle.script_text.specs.LineWords.Words.{words_of}
@@ -6,8 +7,9 @@ use Rattle.stored_office.specs.Advice.Remarks.{Says, remark_of}
 use Rattle.stored_office.specs.declared.advice.remarks.Remark.{Remark}
 use Rattle.stored_office.specs.declared.advice.remarks.Remark.TheVariants.{Refused, Held}
 
--- True if `say_remarks` explains the printed refusal or rejected reading. It explains all except
--- refusal 1 (an unknown device or list), which the function `say_lacks` explains.
+-- True if the function `say_remarks` explains the printed refusal or rejected reading. This
+-- function explains all except refusal 1 (an unknown device or list), which the function
+-- `say_lacks` explains.
 abbrev pub is_left : Remark → Bool
 is_left (Refused number) = not (number == 1)
 is_left (Held meter number) = true
@@ -30,7 +32,8 @@ abbrev pub ExplainsLine : (device : Option (List ℕ)) → (line old new : List 
 ExplainsLine device line old new =
     SaysLeft device (remark_of (words_of line)) old new
 
--- States that the explanations of several printed lines are appended to a text, in order.
+-- States that the explanations of several lines that a round of polls printed are appended to a
+-- text, in the order of these lines.
 abbrev pub Explains : (device : Option (List ℕ)) → List Line → (old new : List ℕ) → Type 0
 Explains device [] old new = new ≡ old
 Explains device (line ∷ lines) old new =

@@ -19,7 +19,7 @@ abbrev pub exactly : (wanted : List ℕ) → List (List ℕ) → Option (List (L
 exactly wanted [] = None
 exactly wanted (word ∷ words) = if bytes_eq word wanted then Some words else None
 
--- The refusal in the words `refused N`. None for other words.
+-- The refusal with the numeric code N in the words `refused N`. None for other words.
 abbrev pub refusal_of : (words : List (List ℕ)) → Option Remark
 refusal_of words =
     exactly (codes "refused") words >>= λ rest.
@@ -28,7 +28,8 @@ refusal_of words =
     small number.0 >>= λ n.
     Some (Refused n)
 
--- The rejected reading in the words `held METER RAW cause N`. None for other words.
+-- The rejected reading of the meter METER, with the numeric code N, in the words `held METER RAW
+-- cause N`. None for other words.
 abbrev pub hold_of : (words : List (List ℕ)) → Option Remark
 hold_of words =
     exactly (codes "held") words >>= λ rest.
@@ -49,23 +50,23 @@ or_hold None held = held
 abbrev pub remark_of : (words : List (List ℕ)) → Option Remark
 remark_of words = or_hold (refusal_of words) (hold_of words)
 
--- States that, if `known` is true, a line with the meaning and the remedy of a printed numeric code
--- is appended to a text. Otherwise states that nothing is appended.
+-- States that a line with the meaning and the remedy of a printed numeric code is appended to a
+-- text, if `known` is true (the code has a meaning). Otherwise states that nothing is appended.
 abbrev pub MeansIf : (known : Bool) → (subject : Option (List ℕ)) → Kind → (before : List ℕ)
     → (number : ℕ) → (old new : List ℕ) → Type 0
 MeansIf true subject k before number old new =
     MeansAfter k number before (with_subject subject old) new
 MeansIf false subject k before number old new = new ≡ old
 
--- States that the explanation of a printed numeric code is appended to a text. If the kind `k` has
--- no such code, states that nothing is appended.
+-- States that the explanation of a printed numeric code is appended to a text. If the kind `k` of
+-- codes (refusals or rejected readings) has no such code, states that nothing is appended.
 abbrev pub MayMean : (subject : Option (List ℕ)) → Kind → (before : List ℕ) → (number : ℕ)
     → (old new : List ℕ) → Type 0
 MayMean subject k before number old new =
     MeansIf (has_number k number) subject k before number old new
 
--- States that the explanation of a refusal or rejected reading, if it has one, is appended to a
--- text. The explanation names the refusal's device or the reading's meter.
+-- States that the explanation of a refusal or rejected reading, if its code has an explanation, is
+-- appended to a text. The explanation names the refusal's device or the reading's meter.
 abbrev pub Says : (device : Option (List ℕ)) → Remark → (old new : List ℕ) → Type 0
 Says device (Refused number) old new = MayMean device kind.Refused (codes ": ") number old new
 Says device (Held meter number) old new =

@@ -1,4 +1,5 @@
--- Defines what each task does to the store in a database, what it prints, and its results.
+-- Defines what each task of the program (such as `report`, `serve` or `run`) does to the store in a
+-- database, what it prints, and its results.
 use Rattle.std.specs.Prelude.{ℕ, List, Option}
 use Rattle.sqlite.specs.Store.{Ghosts}
 use Rattle.office_books.specs.History.{History}
@@ -20,7 +21,8 @@ use Rattle.stored_office.specs.declared.tasks.tasks.Task.TheVariants as task
 use Rattle.stored_office.specs.declared.tasks.tasks.Done.{Done}
 use Rattle.stored_office.specs.declared.tasks.tasks.Done.TheVariants.{Reported, Served, Entered, Polled, Ran}
 
--- States that a task's result is of the kind that the task returns, such as an exit status.
+-- True if a result is of the kind that a task returns. A task is the work of one command on the
+-- store, such as a report, serving HTTP, or a polling round.
 abbrev pub IsOf : Task → Done → Type 0
 IsOf (task.Report register) (Reported end) = Unit {0}
 IsOf (task.ReportRange register form) (Reported end) = Unit {0}
@@ -42,9 +44,10 @@ module _ {B : Type 0} (ledger : B → Ledger) where
       × LooksUp (ledger polled) (ledger left)
 
 module _ {B : Type 0} (ledger : B → Ledger) (reports : Reporting) (past : History) where
-  -- States that the task fulfilled its specification. It changed the store from `found` to `left`
-  -- and the output from `had` to `holds`, and returned the given result. `reports` has the contents
-  -- of the files and counters that an input text names.
+  -- States that a task (the work of one command on the store) fulfilled its specification. It
+  -- changed the store from `found` to `left` and the output from `had` to `holds`, and returned the
+  -- given result. `reports` has the possible results of reading the files and device counters that
+  -- an input text of the command `enter` names.
   unfoldable pub Does : (moments later had holds : Option (List ℕ))
       → (found left : B) → Task → Done → Type 0
   Does moments later had holds found left (task.Report register) (Reported end) =
@@ -65,7 +68,7 @@ module _ {B : Type 0} (ledger : B → Ledger) (reports : Reporting) (past : Hist
   Does moments later had holds found left _ _ = ⊥
 
 -- States that the task ran over the store that was opened from a database, with the changes, the
--- output and the result that `Does` states.
+-- output and the result that `Does` (the specification of all tasks) states.
 abbrev pub DoesOver : {S : Type 0} → Ghosts S → Reporting → (past : History)
     → (moments later had holds : Option (List ℕ)) → Task → Done → Type 0
 DoesOver g reports past moments later had holds asked end = OverBooks g past (λ found left.

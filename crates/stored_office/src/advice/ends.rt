@@ -1,4 +1,5 @@
-//! Decides whether further messages on standard error follow the end of a task.
+//! Decides whether explanatory messages on standard error follow the end of a command's task, such
+//! as a round of polls. None follow if the task failed for a reason that has its own message.
 ghost use Rattle.std.specs.Prelude.{◌≡◌};
 ghost use Rattle.stored_office.specs.Advice.Ends as ends;
 
@@ -8,7 +9,7 @@ use office_program::{PollEnd, RoundFault, ServeEnd};
 
 /// Returns whether explanatory messages on standard error follow a round of polls. They follow if
 /// the round was completed, or if the office (the part that checks and records events) refused to
-/// open or to poll. Any other failure has its own message.
+/// start or refused a poll. Any other failure has its own message.
 pub(crate) fn has_messages(end: PollEnd) -> bool
     ensures { result ≡ ends.has_messages end }
 {
@@ -35,8 +36,8 @@ fn is_refusal(status: ExitStatus) -> bool
     }
 }
 
-// Returns whether a task that serves HTTP ended because the office, which checks and records all
-// events, refused to open.
+// Returns whether a task that serves HTTP ended because the office (the part that checks and
+// records events) refused to start.
 fn is_refused_serving(end: ServeEnd) -> bool
     ensures { result ≡ ends.is_refused_serving end }
 {
@@ -48,8 +49,8 @@ fn is_refused_serving(end: ServeEnd) -> bool
     }
 }
 
-// Returns whether a task that polls a device ended because the office, which checks and records all
-// events, refused to open.
+// Returns whether a task that polls a device ended because the office (the part that checks and
+// records events) refused to start.
 fn is_refused_polling(end: PollEnd) -> bool
     ensures { result ≡ ends.is_refused_polling end }
 {

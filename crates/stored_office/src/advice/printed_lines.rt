@@ -13,8 +13,9 @@ use office_program::PollEnd;
 use std::alloc::{AllocError, Global};
 use std::io::Write;
 
-// Returns whether `say_remarks` explains the printed refusal or rejected reading. It explains all
-// except refusal 1 (an unknown device or list), which the function `say_lacks` explains.
+// Returns whether the function `say_remarks` explains the printed refusal or rejected reading. This
+// function explains all except refusal 1 (an unknown device or list), which the function
+// `say_lacks` explains.
 fn is_left(remark: &Remark) -> bool
     ensures { result ≡ printing.is_left remark.now }
 {
@@ -24,7 +25,9 @@ fn is_left(remark: &Remark) -> bool
     }
 }
 
-// Appends the explanation of a printed line to a text, if the line has an explanation.
+// Appends to a text the explanation of a line that a polling round printed, such as `refused N`.
+// Appends nothing for refusal 1, which the function `say_lacks` explains, and for lines without an
+// explanation.
 fn write_line(text: &mut Vec<u8>, device: &Option<Name>, line: &[u8]) -> Result<(), AllocError>
     ensures { OnOk result (ExplainsLine device.now line.now text.old.items text.new.items) }
 {

@@ -12,7 +12,8 @@ use run_http::status::append_bytes;
 use script_text::{Words, end_of_words, next_name, next_number};
 use std::alloc::AllocError;
 
-/// The content of a line that a round of polls printed and that needs an explanation.
+/// The parsed content (the numeric code, and the meter if there is one) of a line that a round of
+/// polls printed and that needs an explanation.
 #[derive(Clone, Copy)]
 pub(crate) enum Remark {
     /// The line `refused N`: an event was refused for the reason with the numeric code N.

@@ -1,10 +1,11 @@
-//! Explains the lines of an input that the command `enter` did not accept.
+//! Explains why the command `enter` did not accept lines of its input, such as meter readings.
 use crate::advice::remarks::{Remark, remark_in};
 use command_io::{InputLine, InputLines};
 use printed_numbers::{Kind, meaning_of};
 use std::io::{self, Write};
 
-/// The number of bytes of an input line that a message repeats. A point list can be much longer.
+/// The number of bytes of an input line that a message repeats. An input line with a point list can
+/// be much longer.
 const SHOWN: usize = 60;
 
 const DOUBTED: &[u8] =
@@ -15,12 +16,12 @@ const UNREAD: &[u8] = b": the counter was not read, or no register has this name
 const BAD: &[u8] =
     b": it has the form of no line, or names a file that can't be read; the lines after it were not executed";
 
-// Returns the beginning of an input line.
+// Returns the beginning of an input line, at most as many bytes as a message repeats.
 fn beginning(line: &[u8]) -> &[u8] {
     line.get(..SHOWN).unwrap_or(line)
 }
 
-// Writes what an answer means, and what the user can do.
+// Writes what the answer to an input line (such as a refusal) means, and what the user can do.
 fn write_meaning<E: Write>(answer: &[u8], errors: &mut E) -> io::Result<()> {
     if let Some(Remark::Refused(number)) = remark_in(answer) {
         return match meaning_of(Kind::Refused, number) {
@@ -37,7 +38,7 @@ fn write_meaning<E: Write>(answer: &[u8], errors: &mut E) -> io::Result<()> {
     }
 }
 
-// Writes an input line, its answer, and what the answer means.
+// Writes an input line of the command `enter`, the answer to this line, and what the answer means.
 fn write_line<E: Write>(line: InputLine<'_>, answer: &[u8], errors: &mut E) -> io::Result<()> {
     write!(errors, "sunreg: line {}: ", line.number)?;
     errors.write_all(beginning(line.text))?;

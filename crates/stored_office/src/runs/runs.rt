@@ -1,5 +1,6 @@
 //! Functions that run an office (the part of the program that checks and records events) over a
-//! store in a database. The contracts of these functions are the main theorem about an office.
+//! store in a database. Their contracts are the main theorem about an office: the store has the
+//! records of all accepted events.
 ghost use Rattle.std.specs.Prelude.{ℕ, List, [], IfErr, IfOk, IfSome};
 ghost use Rattle.office_core.specs.EventRun.{HandsBack, IsCleanOnlyIfWas, RecordsIfClean};
 ghost use Rattle.office_books.specs.Lawfulness.{IsPast};
@@ -14,9 +15,10 @@ use sqlite::{Alter, Connection};
 use std::alloc::Global;
 
 /// Opens an office (the checks and the recording of events) over a store in a database, and
-/// processes events. The main theorem about an office applies on two conditions. The store must
-/// have exactly the records of a history of accepted events, and must still have them after a
-/// crash. The disk must return what was written to it.
+/// processes events. The main theorem states that the store then has the records of all accepted
+/// events. It applies on two conditions. The store must have exactly the records of a history of
+/// accepted events, and must still have them after a crash. The disk must return what was written
+/// to it.
 pub fn run_stored<S: Alter + Drop>(
     alloc: Global,
     books: SqlBooks<S>,
@@ -35,9 +37,9 @@ pub fn run_stored<S: Alter + Drop>(
 }
 
 /// Creates a store in an empty database, opens an office (the checks and the recording of events)
-/// over the store, and processes events. The civil days are those of the time zone `zone`. The main
-/// theorem about an office applies if the disk returns what was written to it. Returns None if the
-/// store could not be created, or if the office could not be opened.
+/// over the store, and processes events. The civil days are those of the time zone `zone`. If the
+/// disk returns what was written to it, the store has the records of all accepted events. Returns
+/// None if the store could not be created, or if the office could not be opened.
 pub fn run_created<S: Alter + Drop>(
     alloc: Global,
     connection: Connection<S>,

@@ -10,7 +10,8 @@ use office_program::{PollEnd, RoundFault, ServeEnd};
 use office_running::RunFault;
 use stored_files::{Ending, Failure, ending_of};
 
-// Returns the ending of a command that polled a device, from the result of the round of polls.
+// Returns how a command that polled a device ended (its exit status and message), from the result
+// of the polling round.
 fn ending_of_round<'a>(done: Result<(), RoundFault>, host: &'a str, port: u16) -> Ending<'a>
     ensures { ending_number result ≡ status_number (round_status done) }
 {
@@ -23,7 +24,8 @@ fn ending_of_round<'a>(done: Result<(), RoundFault>, host: &'a str, port: u16) -
     }
 }
 
-// Returns the ending of the command `serve`, which served HTTP on a port of a host.
+// Returns the program's ending (success, or the failure to report) from the result of the command
+// `serve`, which served HTTP on a port of a host.
 fn ending_of_serving<'a>(end: ServeEnd, host: &'a str, port: u16) -> Ending<'a>
     ensures { ending_number result ≡ serving_number end }
 {
@@ -35,7 +37,8 @@ fn ending_of_serving<'a>(end: ServeEnd, host: &'a str, port: u16) -> Ending<'a>
     }
 }
 
-// Returns the ending of the command that polls a device once, at port `port` of `host`.
+// Returns how the command that polls a device once, at port `port` of `host`, ended: with success,
+// a refusal or a failure.
 fn ending_of_polling<'a>(end: PollEnd, host: &'a str, port: u16) -> Ending<'a>
     ensures { ending_number result ≡ polling_number end }
 {
@@ -46,8 +49,8 @@ fn ending_of_polling<'a>(end: PollEnd, host: &'a str, port: u16) -> Ending<'a>
     }
 }
 
-// Returns the ending of the command `run`, which polled devices and served HTTP on a port of a
-// host.
+// Returns the program's ending (success, or the failure to report) from the result of the command
+// `run`, which polled devices and served HTTP on a port of a host.
 fn ending_of_run<'a>(end: Result<(), RunFault>, host: &'a str, port: u16) -> Ending<'a>
     ensures { ending_number result ≡ run_number end }
 {
@@ -62,8 +65,8 @@ fn ending_of_run<'a>(end: Result<(), RunFault>, host: &'a str, port: u16) -> End
     }
 }
 
-/// Returns the ending of a command, from the result of its task. `host` and `port` are the address
-/// that the task connected to or listened on. The message names this address.
+/// Returns how a command ended (its exit status and message), from the result of its task. The
+/// message names `host` and `port`, the address that the task connected to or listened on.
 pub fn ending_of_done<'a>(done: Result<Done, Failure<'a>>, host: &'a str, port: u16) -> Ending<'a>
     ensures { ending_number result ≡ done_number done.entry }
 {

@@ -29,8 +29,8 @@ use std::rt::Files;
 /// What a command does with the store in a database file.
 #[derive(Clone, Copy)]
 pub enum Task<'a> {
-    /// Prints the energy of an accounting register (a named counter of a device), as `report_books`
-    /// does.
+    /// Prints the energy of an accounting register (a named counter of a device) by civil day, with
+    /// the function `report_books`.
     Report {
         register: &'a str,
     },
@@ -41,41 +41,44 @@ pub enum Task<'a> {
         register: &'a str,
         form: &'a ReportForm,
     },
-    /// Prints the statements (reports to check a bill) of the meters of an accounting register for
-    /// a range of days, as `statement_books` does.
+    /// Prints the statements (reports to check a bill) of the meters of an accounting register (a
+    /// named energy counter) for a range of days. The function `statement_books` prints the same.
     Statement {
         register: &'a str,
         form: &'a StatementForm,
     },
-    /// Serves HTTP for `connections` connections, as `serve_books` does. `names` are host names
-    /// that the `Host` header of a request may have, besides those of this machine.
+    /// Opens an event engine, and serves HTTP for `connections` connections on a port of a host.
+    /// `names` are host names that the `Host` header of a request may have, besides those of this
+    /// machine.
     Serve {
         host: &'a str,
         port: u16,
         names: &'a [&'a str],
         connections: u32,
     },
-    /// Processes the events, such as meter entries, in the lines of a text, as `enter_books` does.
-    /// The idempotency keys of the lines contain `caller`.
+    /// Processes the requests, such as meter entries, in the lines of a text, and prints a line for
+    /// each of them. The idempotency keys of the lines contain `caller`.
     Enter {
         caller: &'a str,
         text: &'a [u8],
     },
-    /// Polls the device at a port of a host in one round, as `poll_books` does. Then reports
-    /// missing parts of the device's setup, as `say_lacks` does.
+    /// Polls the device at a port of a host in one polling round, with the function `poll_books`.
+    /// Then the function `say_lacks` reports which parts of the device's setup are missing in the
+    /// store.
     Round {
         device: &'a str,
         host: &'a str,
         port: u16,
     },
-    /// Polls devices on a schedule and serves HTTP, as `run_office` does.
+    /// The task of the command `run`: polls devices on a schedule and serves HTTP, with the
+    /// function `run_office`.
     Run {
         settings: &'a Settings<'a>,
         sites: &'a [Site],
     },
 }
 
-/// The result of a task.
+/// The result of a task that a command executed on a database file.
 #[derive(Clone, Copy)]
 pub enum Done {
     Reported(ExitStatus),
@@ -86,7 +89,7 @@ pub enum Done {
 }
 
 /// Executes a task over a store, and returns the store and the task's result. `files` reads the
-/// files and counters that an input text names.
+/// files and device counters that an input text of the command `enter` names.
 fn carry_out<
     R: Net + std::rt::Clock + Files,
     B: Books,
@@ -173,7 +176,8 @@ fn carry_out<
 }
 
 /// Opens the store in a database, and executes a task over it. Prints nothing if the store can't be
-/// opened. `files` reads the files and counters that an input text names.
+/// opened. `files` reads the files and device counters that an input text of the command `enter`
+/// names.
 pub fn carry_out_stored<
     R: Net + std::rt::Clock + Files,
     S: Alter + Drop,

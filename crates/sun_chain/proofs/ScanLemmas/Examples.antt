@@ -1,4 +1,5 @@
--- Examples of scans for SunSpec models, at each limit and just past it.
+-- Examples of scans for SunSpec models, with addresses, numbers of models and lengths at each limit
+-- and just past it.
 use Rattle.std.specs.Prelude.{pos, negsuc}
 use Rattle.std.proofs.Common.{◌≡◌, ℕ, ◌+◌, ◌==◌, ◌||◌, ◌&&◌, nat_le, nat_lt, Bool, true, false, if◌then◌else◌, List, [], ◌∷◌, length, Some, None, refl}
 use Rattle.sun_chain.specs.Image.{Words}
@@ -15,7 +16,7 @@ use Rattle.sun_chain.specs.declared.scans.stage.Stage.TheVariants.{Mark, Head, E
 abbrev two : (address first second : ℕ) → Words
 two address first second at = if at == address then Some first else if at == address + 1 then Some second else None
 
--- Examples of the stage of a scan after a read of the `SunS` mark.
+-- Examples of what a scan reads next (its stage) after a read of the `SunS` mark.
 
 first_read : wanted begun ≡ Some (holding 40000 2)
 first_read = refl
@@ -32,7 +33,8 @@ no_mark = refl
 marked : stage_after (two 50000 0x5375 0x6E53) (Mark 50000) ≡ Head 50002 0
 marked = refl
 
--- Examples of the stage of a scan after a read of a model's head (ID and length).
+-- Examples of what a scan (the search for a device's SunSpec models) reads next, after a read of a
+-- model's head (ID and length).
 
 unknown_between : stage_after (two 10 9 4) (Head 10 3) ≡ Head 16 4
 unknown_between = refl
@@ -67,7 +69,7 @@ ending = refl
 no_ending : stage_after nothing (Head 65535 1) ≡ Over
 no_ending = refl
 
--- Examples of the reads of a model's registers.
+-- Examples of the Modbus reads of a SunSpec model's registers in a scan.
 
 in_a_model : stage_after (two 10 1 126) (Head 10 0) ≡ Registers (model_at 10 1 126) 0 1
 in_a_model = refl
@@ -90,7 +92,7 @@ after_125 = refl
 empty_model : stage_after (two 10 1 0) (Head 10 0) ≡ Head 12 1
 empty_model = refl
 
--- The known models are those whose tables have points.
+-- The models whose points a scan knows are those whose tables have points.
 known_has_points : (id : ℕ) → is_known id ≡ nat_lt 0 (length (table_of id))
 known_has_points id = tests (id == 1) (nat_le 101 id && nat_le id 103) (nat_le 201 id && nat_le id 204)
   where

@@ -1,4 +1,5 @@
--- Lemmas about the frames of streams that arrive in chunks.
+-- Lemmas that the Modbus TCP frames of a byte stream do not depend on the chunks in which the
+-- stream arrives.
 use Rattle.std.proofs.Common.{◌≡◌, ℕ, ◌+◌, ◌-◌, ◌<◌, ◌⊎◌, inl, inr, List, [], ◌∷◌, ◌++◌, length, take, drop, refl, sym, ap, ◌∙◌, subst, arith, append_assoc, length-append, lit<}
 use Rattle.std.specs.List.{flat_map}
 use Rattle.std.proofs.lemmas.List.{append-nil, take_all, take-append-drop, take_rest}
@@ -12,7 +13,7 @@ use Rattle.mb_wire.proofs.Readings.{AllByRecursion-append, Reads-is, Reads-only,
 abbrev concat : List (List ℕ) → List ℕ
 concat all = flat_map (λ frame. frame) all
 
--- The bytes from an index to the end of the list, as a slice.
+-- The part of a list of bytes from a given index to the end of the list.
 abbrev pub from : ℕ → List ℕ → List ℕ
 from n bytes = take (length bytes - n) (drop n bytes)
 
@@ -64,16 +65,16 @@ bad_stays b left bad =
     let alone = rest_alone (b ++ left) (inr still) in
     subst IsBad (sym alone.1) still
 
--- The bytes since the last frame contain exactly the frame that `feed` reports as ended, or no
--- complete frame if `feed` reports none.
+-- The bytes since the last frame contain exactly the frame that `feed` (which passes a chunk to the
+-- frame reader) reports as completed, or none if `feed` reports none.
 pub reported : (what : Framing) (b : List ℕ) → ReportsFraming what b → (frames b ≡ ended what b) × (rest b ≡ (buffered_after what b).rest)
 reported Need b reports = rest_alone b (inl reports)
 reported Whole b reports = frame_alone b reports.0
 reported Foreign b reports = frame_alone b reports.0
 reported Garbled b reports = rest_alone b (inr reports.0)
 
--- A chunk of a stream consists of the bytes that a call of `feed` consumed, followed by the
--- remaining bytes.
+-- A chunk of a stream consists of the bytes that a call of `feed` (which passes the chunk to the
+-- frame reader) consumed, followed by the remaining bytes.
 pub piece_is : (r piece : List ℕ) (taken : ℕ) → r ++ piece ≡ (r ++ take taken piece) ++ from taken piece
 piece_is r piece taken = ap (λ y. r ++ y) (sym (whole_again taken piece)) ∙ sym (append_assoc r (take taken piece) (from taken piece))
 
@@ -84,8 +85,8 @@ piece_rest what r piece taken buffered reports is =
     let stays : rest b ≡ buffered.rest = (reported what b reports).1 ∙ ap (λ (h : Buffered). h.rest) (sym is) in
     ap rest (piece_is r piece taken) ∙ (frames-then b (from taken piece)).1 ∙ ap (λ y. rest (y ++ from taken piece)) stays
 
--- If a call of `feed` consumes all of a chunk and completes no frame, then all bytes of the chunk
--- are buffered.
+-- If a call of `feed` (which passes a chunk to the frame reader) consumes all of the chunk and
+-- completes no frame, then all bytes of the chunk are buffered.
 pub need_rest : (what : Framing) (r piece : List ℕ) (taken : ℕ) (buffered : Buffered) → ReportsFraming what (r ++ take taken piece) → buffered ≡ buffered_after what (r ++ take taken piece)
     → what ≡ Need → taken ≡ length piece → (buffered.rest ≡ rest (r ++ piece)) × IsOpen buffered.rest × (frames (r ++ piece) ≡ []) × (buffered ≡ buffered_after Need (r ++ piece))
 need_rest what r piece taken buffered reports is need all =
@@ -98,8 +99,8 @@ need_rest what r piece taken buffered reports is need all =
     let stays : buffered.rest ≡ r ++ piece = ap (λ (h : Buffered). h.rest) is_need in
     (stays ∙ sym alone.1, subst IsOpen (sym stays) is_open, alone.0, is_need)
 
--- If a call of `feed` ends at an invalid length field, then the stream has this invalid header
--- after its last complete frame.
+-- If a call of `feed` (which passes a chunk to the frame reader) ends at an invalid length field,
+-- then the stream has this invalid header after the last frame.
 pub garbled_rest : (what : Framing) (r piece : List ℕ) (taken : ℕ) → ReportsFraming what (r ++ take taken piece) → what ≡ Garbled → IsBad (rest (r ++ piece))
 garbled_rest what r piece taken reports garbled =
     let b = r ++ take taken piece in
@@ -113,8 +114,8 @@ nothing_came r is_open =
     let alone = rest_alone r (inl is_open) in
     (ap frames (append-nil r) ∙ alone.0, sym alone.1 ∙ sym (ap rest (append-nil r)))
 
--- The frames of a longer stream are those of the bytes that arrived until now, followed by those
--- that the bytes left over form with the new bytes.
+-- The frames of a stream are those of the bytes that arrived first, followed by those that the
+-- leftover bytes form with the bytes that arrive later.
 pub came_more : (r came more : List ℕ) → (frames (r ++ (came ++ more)) ≡ frames (r ++ came) ++ frames (rest (r ++ came) ++ more)) × (rest (r ++ (came ++ more)) ≡ rest (rest (r ++ came) ++ more))
 came_more r came more =
     let joined : r ++ (came ++ more) ≡ (r ++ came) ++ more = sym (append_assoc r came more) in

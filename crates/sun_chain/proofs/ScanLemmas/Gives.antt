@@ -19,8 +19,8 @@ pub got_both : {X E : Type 0} (result : Result X E) (a b c : Option (List ℕ)) 
 got_both (Ok done) a b c x y first second = Appends-trans a b c x y first second
 got_both (Err error) a b c x y first second = part_after a b c x y first second
 
--- A failed write sends a beginning of the bytes (possibly none), and any other write sends all
--- bytes.
+-- A failed write to a link to a device sends a first part of the bytes (possibly none), and any
+-- other write sends all bytes.
 pub got_of : {X E : Type 0} (result : Result X E) (a b : Option (List ℕ)) (bytes : List ℕ) → Gives result a b bytes → GotText result bytes a b
 got_of (Ok done) a b bytes gives = gives
 got_of (Err error) a b bytes gives = (gives.part, gives.unsent, gives.whole, gives.given)

@@ -11,8 +11,9 @@ use Rattle.sun_chain.specs.Scanning.Stages.{after_head, checked, head_at, in_mod
 use Rattle.sun_chain.specs.declared.scans.stage.Stage.{Stage}
 use Rattle.sun_chain.specs.declared.scans.stage.Stage.TheVariants.{Mark, Head, Ending, Registers, Over}
 
--- A number that is at least 125 times the number of reads that may still follow. The number counts
--- 1 for each address that may still be read, and 250 for each model that may still be found.
+-- A number that is at least 125 times the number of reads that may still follow in a scan. The
+-- number counts 1 for each address that may still be read, and 250 for each model that may still be
+-- found.
 abbrev pub potential : Stage → ℕ
 potential (Mark address) = if address == 40000 then 82161 else if address == 50000 then 82036 else 81911
 potential (Head address models) = 250 + 250 * (64 - models) + (65536 - address)
@@ -39,7 +40,8 @@ marked_potential address =
       | false ↦ elim (address == 50000) as (λ b. 250 + 250 * 64 + (65536 - (address + 2)) + 125 ≤ (if b then 82036 else 81911)) [ true ↦ omega arith | false ↦ omega arith ]
     ]
 
--- True if the model at the address is valid as the next model after `models` earlier models.
+-- True if the model at the address may follow `models` earlier models: fewer than 64 models precede
+-- it, and it ends within 65536 addresses.
 pub record Standing (models address : ℕ) (model : Model) : Type 0 where
   pub at : model.address ≡ address
   pub few : models < 64
@@ -85,8 +87,8 @@ head_step word models address None =
 head_step word models address (Some id) =
     found_potential models address (model_in word models address) (λ model. model_stands word models address model)
 
--- Each read of a scan lowers the number `potential`, which bounds the remaining reads, by at least
--- 125.
+-- Each read of a scan (the search for a device's SunSpec models) lowers the number `potential`,
+-- which bounds the remaining reads, by at least 125.
 pub less_potential : (word : Words) (stage : Stage) (span : Span) → wanted stage ≡ Some span → potential (stage_after word stage) + 125 ≤ potential stage
 less_potential word (Mark address) span is =
     elim (is_marked word address) as (λ b. potential (if b then Head (address + 2) 0 else other_mark address) + 125 ≤ potential (Mark address))

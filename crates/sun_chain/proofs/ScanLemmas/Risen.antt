@@ -1,13 +1,15 @@
--- Lemmas on the count of reads of the link to the device, which stops rising at its greatest value.
+-- Lemmas on the count of reads of the link to the device. The count stops rising at its greatest
+-- value.
 use Rattle.std.proofs.Common.{◌≡◌, ℕ, ◌+◌, ◌-◌, ◌^◌, ◌<◌, ◌≤◌, min, true, sym, subst, arith}
 use Rattle.mb_wire.specs.Links.{risen}
 
--- A read raises the count by one at most.
+-- A read of the link to the device raises the count of these reads by at most one.
 pub risen_most : (n m : ℕ) → m ≡ risen true n → m ≤ n + 1
 risen_most n m is = omega (arith, is)
 
--- States that the count of reads, `old` before a call, is `new` after some turns of one read each.
--- If it had not its greatest value, it has risen by these turns.
+-- States how a count of reads of the link to the device changes from `old` to `new` in `turns`
+-- turns of one read each. If `old` is below the greatest value, the count does not fall, and it
+-- rises if there was a turn.
 abbrev pub Grows : (old new turns : ℕ) → Type 0
 Grows old new turns = old < 2 ^ 64 - 1 → (old ≤ new) × (new ≤ 2 ^ 64 - 1) × (0 < turns → old < new)
 

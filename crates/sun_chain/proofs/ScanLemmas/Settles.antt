@@ -26,8 +26,8 @@ if_ok_then P Q (Err e) holds step = tt
 abbrev brings : Ask → List ℕ → Option (List ℕ)
 brings ask frame = words_in ask (fields_of frame)
 
--- The result of a request is that of the earlier frames, or that of the later frames if the earlier
--- frames include no response.
+-- Let frames arrive after a request in two lists. The result of the request is that of the first
+-- list, or that of the second list if the first list includes no response.
 pub settled_both : (ask : Ask) (fs gs : List (List ℕ)) → settled ask (fs ++ gs) ≡ first_of (settled ask fs) (settled ask gs)
 settled_both ask [] gs = refl
 settled_both ask (f ∷ fs) gs =
@@ -55,13 +55,14 @@ own_reply ask f own = ap (λ (b : Bool). b && (tid_of f == ask.id)) (eq-eqb _ _ 
 foreign_reply : (ask : Ask) (f : List ℕ) → (IsOwn f → ⊥) → is_reply ask f ≡ false
 foreign_reply ask f foreign = ap (λ (b : Bool). b && (tid_of f == ask.id)) (ne_eqb _ _ foreign)
 
--- If the frame reader has no complete frame, then the request has no response yet.
+-- If the frame reader of a client has no complete frame, then the request for which the client
+-- waits has no response yet.
 pub none_held : (ask : Ask) (held : Option (List ℕ)) → None ≡ option_map fields_of held → settled ask (frames_held held) ≡ None
 none_held ask None is = refl
 none_held ask (Some f) is = cc
 
--- If the frame in the reader has another transaction identifier than the request, the request has
--- no response yet.
+-- If the frame in the client's frame reader has another transaction identifier than the request,
+-- the request has no response yet.
 pub other_held : (ask : Ask) (held : Option (List ℕ)) (fields : Fields) → Some fields ≡ option_map fields_of held → IfSome held IsOwn → fields.tid ≢ ask.id → settled ask (frames_held held) ≡ None
 other_held ask None fields is own other = cc
 other_held ask (Some f) fields is own other =
@@ -77,8 +78,8 @@ same_held ask (Some f) fields is own equal =
     let tids : fields.tid ≡ tid_of f = ap (λ (x : Fields). x.tid) same in
     one_frame ask f true (own_reply ask f own ∙ eq-eqb _ _ (sym tids ∙ equal)) ∙ ap (λ (x : Fields). Some (words_in ask x)) (sym same)
 
--- The frame that a call of `feed` completed gives a request the same result as the frame that is
--- then in the reader.
+-- The frame that a call of `feed` (which passes a chunk to the frame reader) completed gives a
+-- request the same result as the frame that the reader then has.
 settled_ended : (ask : Ask) (what : Framing) (b : List ℕ) → ReportsFraming what b → settled ask (ended what b) ≡ settled ask (frames_held (buffered_after what b).frame)
 settled_ended ask Need b reports = refl
 settled_ended ask Whole b reports = refl
@@ -111,8 +112,8 @@ piece_settles ask what r piece taken buffered reports is =
     ∙ ap (λ (x : Option (Option (List ℕ))). first_of x (settled ask (frames (rest b ++ left)))) front
     ∙ ap (λ (y : List ℕ). first_of (settled ask (frames_held buffered.frame)) (settled ask (frames (y ++ left)))) stays
 
--- If a call of `feed` consumes all of a chunk and completes no frame, the chunk contains no
--- response to the request.
+-- If a call of `feed` (which passes a chunk to the frame reader) consumes all of the chunk and
+-- completes no frame, the chunk contains no response to the request.
 pub need_settles : (ask : Ask) (what : Framing) (r piece : List ℕ) (taken : ℕ) (buffered : Buffered) → ReportsFraming what (r ++ take taken piece) → buffered ≡ buffered_after what (r ++ take taken piece)
     → what ≡ Need → taken ≡ length piece → settled ask (frames_held buffered.frame) ≡ settled ask (frames (r ++ piece))
 need_settles ask what r piece taken buffered reports is need all =
@@ -125,8 +126,8 @@ pub heard_piece : (heard later : Option (Option (List ℕ))) (held piece : Optio
 heard_piece heard later held piece result first next =
     next ∙ ap (λ (x : Option (Option (List ℕ))). first_of x piece) first ∙ first_assoc heard held piece
 
--- If a turn (one read of the link to the device) receives no bytes, the incomplete frame is
--- unchanged.
+-- If a turn (one read of the link to the device) receives no bytes, the buffered bytes of an
+-- incomplete frame are unchanged.
 pub hears_nothing : (a b : Option (List ℕ)) (r : List ℕ) → IsOpen r → Keeps a b → Hears a b r r []
 hears_nothing a b r is_open kept = record { took = Consumes-kept a a b [] (Consumes-nil a) kept; read = (nothing_came r is_open).1; is_open = is_open }
 
@@ -155,7 +156,8 @@ garbles_both a b c r s came first next = record {
       next.bad;
 }
 
--- Lemmas about single reads of a link to a device while waiting for a response.
+-- Lemmas on waiting for a response: after each read of the link to the device, the response is
+-- complete, the read has timed out, or the wait continues with the bytes received so far.
 
 pub kept_idle : (a b : Option (List ℕ)) (piece : List ℕ) (answer : Took) → TakeConsumes a b (Ok answer) piece → answer ≡ took.Idle → Keeps a b
 kept_idle a b piece answer took is = subst (λ (t : Took). TakeConsumes a b (Ok t) piece) is took

@@ -1,5 +1,5 @@
--- Lemmas about the count and the power of ten of a counter that a read over a new link to a device
--- returns.
+-- Lemmas that a read of a counter over a new link to a device returns the count and the power of
+-- ten that are decoded from the device's words.
 use Rattle.std.proofs.Common.{◌≡◌, ℕ, List, [], Option, Some, Result, refl, ap, ◌∙◌, subst}
 use Rattle.mb_wire.specs.Spans.{Span}
 use Rattle.sun_chain.specs.Scanning.Counters.{AsksCounter, ShowsCounter, shown_by, decode_counter}
@@ -9,8 +9,8 @@ use Rattle.sun_chain.specs.declared.scans.counter.CounterScale.{CounterScale}
 use Rattle.sun_chain.specs.declared.scans.counter.Shown.{Shown}
 use Rattle.sun_chain.proofs.ScanLemmas.Talking.{standing}
 
--- A client without buffered bytes, whose next transaction identifier is 1, gives its link to a
--- device the state `fresh` of a new link.
+-- If a client has no buffered bytes, and its next transaction identifier is 1, then its link to a
+-- device is in the state `fresh` of a new link.
 begun_here : (bytes given : Option (List ℕ)) (open_bytes : List ℕ) (next : ℕ) → open_bytes ≡ [] → next ≡ 1 → standing bytes given open_bytes next ≡ fresh bytes given
 begun_here bytes given open_bytes next nothing first =
     ap (λ (o : List ℕ). standing bytes given o next) nothing ∙ ap (λ (n : ℕ). standing bytes given [] n) first

@@ -1,4 +1,6 @@
--- Lemmas about the consecutive requests and reads of a scan, and the words that they return.
+-- Lemmas about the Modbus reads of a scan, which reads a device's chain of SunSpec models. They
+-- cover the requests that the scan writes, the bytes that arrive, and the words that the reads
+-- return.
 use Rattle.std.specs.Prelude.{slice_index}
 use Rattle.std.proofs.Common.{◌≡◌, ℕ, ◌+◌, ◌*◌, ◌<◌, ◌≤◌, List, [], ◌∷◌, ◌++◌, length, Option, None, Some, Result, Ok, Bool, true, false, ◌==◌, if◌then◌else◌, drop, map, refl, sym, ap, ◌∙◌, subst, append-nil, append_assoc, length-append, arith, option_map}
 use Rattle.std.specs.List.{flat_map}
@@ -31,7 +33,8 @@ use Rattle.sun_chain.proofs.ScanLemmas.Gives.{got_both, part_after}
 use Rattle.sun_chain.proofs.ScanLemmas.Settles.{hears_both, hears_nothing}
 use Rattle.sun_chain.proofs.ScanLemmas.Potentials.{less_potential, potential}
 
--- Lemmas about the bytes written to the link (the connection to a device).
+-- Lemmas about the bytes written to the link (the connection to a device): a read writes at most
+-- two requests, and a scan requests only holding registers.
 
 pub requests_one : {X E : Type 0} (unit : ℕ) (span : Span) (id : ℕ) (result : Result X E) (a b : Option (List ℕ)) → GotText result (request_under unit span id) a b → OnlyRequests unit span result a b
 requests_one unit span id result a b got =
@@ -46,8 +49,8 @@ requests_two unit span id next result a b c first second = (
       (got_both result a b c (request_under unit span id) (request_under unit span next) first second),
 )
 
--- The frame of a request for holding registers is the frame of the `Inquiry` with the same
--- transaction identifier, address and count.
+-- The frame of a request for holding registers is the frame of the `Inquiry` (a request as a value)
+-- with the same transaction identifier, address and count.
 pub holding_frame : (id unit : ℕ) (function : ReadFunction) (address count : ℕ) → function ≡ HoldingRegisters
     → request_frame (record { id = id; unit = unit; span = record { function = function; address = address; count = count } }) ≡ inquiry_frame unit (record { id = id; address = address; count = count })
 holding_frame id unit function address count is =
@@ -77,7 +80,8 @@ wanted_holding (Ending at) span is = same_function span _ is
 wanted_holding (InModel model asked models) span is = same_function span _ is
 wanted_holding Over span is = cc
 
--- Lemmas about the bytes that arrive over the link (the connection to a device).
+-- Lemmas about the bytes that arrive over the link (the connection to a device). A call that reads
+-- nothing may precede the reads, and the bytes of consecutive reads are concatenated.
 
 pub hears_kept : (a b c : Option (List ℕ)) (r s came : List ℕ) → Keeps a b → Hears b c r s came → Hears a c r s came
 hears_kept a b c r s came kept heard = record {
@@ -158,7 +162,8 @@ pub reads_full : (unit : ℕ) (a b : Line) (span : Span) (answer : Option (List 
 reads_full unit a b span answer words (AtOnce all said tries) is = tries_full unit a b span answer words tries is
 reads_full unit a b span answer words (Again mid first next) is = tries_full unit mid b span answer words next is
 
--- Lemmas about consecutive reads of a scan and the words that they return.
+-- Lemmas on a scan (the search for a device's SunSpec models): what follows from its list of reads,
+-- if one more read with the words that it returned is appended.
 
 pub same_words : (a b : Words) → ((address : ℕ) → a address ≡ b address) → a ≡ b
 same_words a b same = λ i. λ address. same address i
@@ -172,7 +177,7 @@ talks_more unit a [] x b c talk reads = (c, subst (λ (l : Line). Reads unit l c
 talks_more unit a (first ∷ xs) x b c talk reads = (talk.0, talk.1, talks_more unit talk.0 xs x b c talk.2 reads)
 
 -- True if a scan's exchanges (reads and their results) lead to the given state of the link, the
--- given words and the given stage.
+-- given words and the given stage (what the scan reads next).
 pub record Progress (unit : ℕ) (old now : Line) (word : Words) (stage : Stage) (exchanges : List Exchange) : Type 0 where
   pub asked : (later : List Exchange) → AsksInTurn word stage later → AsksInTurn nothing begun (exchanges ++ later)
   pub words : word ≡ words_reported nothing exchanges
@@ -207,7 +212,8 @@ progress_more unit old now next word later stage later_stage xs x before is read
       few = omega arith;
     }
 
--- Lemmas about a scan for SunSpec models that is in progress.
+-- The invariant of a scan for SunSpec models that is in progress, with lemmas that it is true at
+-- the start and after each further read.
 
 abbrev pub standing : (bytes given : Option (List ℕ)) (open_bytes : List ℕ) (next : ℕ) → Line
 standing bytes given open_bytes next = record { bytes = bytes; given = given; open_bytes = open_bytes; next = next }
@@ -264,8 +270,8 @@ going_more unit old_bytes old_given bytes given later_bytes later_given asked_un
       takes = omega arith;
     }
 
--- If the stage of a scan requires no further read, the scan ends with the effects that `Scans`
--- defines.
+-- If the stage of a scan (what it reads next) requires no further read, the scan ends with the
+-- effects that its contract `Scans` defines.
 pub going_ends : (unit : ℕ) (old_bytes old_given bytes given : Option (List ℕ)) (asked_unit : ℕ) (open_bytes : List ℕ) (next : ℕ) (word found : Words) (stage : Stage) (old_taken taken : ℕ) →
     Going unit old_bytes old_given bytes given asked_unit open_bytes next word stage old_taken taken → wanted stage ≡ None → found ≡ word → Scans unit old_bytes old_given bytes given found
 going_ends unit old_bytes old_given bytes given asked_unit open_bytes next word found stage old_taken taken going over is =
@@ -306,7 +312,8 @@ smaller word stage next span is goes =
     let same : potential next ≡ potential (stage_after word stage) = ap potential goes in
     omega arith
 
--- If a response has words, the number of these words is the requested number.
+-- If the response to a read has words (register values), the number of these words is the requested
+-- number.
 pub seen_full : {Z : Type 0} (answer : Option (Vec ℕ Z)) (count : ℕ) → ((words : List ℕ) → words_seen answer ≡ Some words → length words ≡ count) → IfSome answer (λ words. length words.items ≡ count)
 seen_full None count full = tt
 seen_full (Some words) count full = full words.items refl

@@ -57,7 +57,7 @@ abbrev pub first_of : {X : Type 0} → Option X → Option X → Option X
 first_of None next = next
 first_of (Some x) next = Some x
 
--- The words in a vector, as a list.
+-- The 16-bit words in a vector, as a list.
 abbrev pub items_of : {Z : Type 0} → Vec ℕ Z → List ℕ
 items_of words = words.items
 
@@ -65,7 +65,8 @@ items_of words = words.items
 abbrev pub words_seen : {Z : Type 0} → Option (Vec ℕ Z) → Option (List ℕ)
 words_seen words = option_map items_of words
 
--- The result of a request with its words as a list, or `None` before a response arrives.
+-- The result of a read request, with the received words (registers) as a list. `None` before a
+-- response arrives.
 abbrev pub seen : {Z : Type 0} → Option (Option (Vec ℕ Z)) → Option (Option (List ℕ))
 seen heard = option_map words_seen heard
 

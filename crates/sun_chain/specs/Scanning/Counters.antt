@@ -49,7 +49,8 @@ is_allowed sf = int_le (negsuc 2) sf && int_le sf (pos 3)
 abbrev pub allowed : ℤ → Option ℤ
 allowed sf = if is_allowed sf then Some sf else None
 
--- The power of ten in a sunssf register, or `None` if it is not implemented or not from -3 to 3.
+-- The power of ten in a sunssf register, or `None` if the register has the value for "not
+-- implemented" or a power that is not from -3 to 3.
 abbrev pub reported : (word : ℕ) → Option ℤ
 reported word = if word == 0x8000 then None else allowed (scale_value word)
 
@@ -59,13 +60,13 @@ abbrev pub scale_in : (first : ℕ) → List ℕ → CounterScale → Option ℤ
 scale_in first words (Fixed sf) = allowed sf
 scale_in first words (Register at) = reported (word_at first words at)
 
--- The count in the two words from `address`, high word first.
+-- The count of a counter in the two words from `address`, high word first.
 abbrev pub count_in : (first : ℕ) → List ℕ → (address : ℕ) → ℕ
 count_in first words address =
     acc32_value (word_at first words address) (word_at first words (address + 1))
 
--- The count and power of ten of a counter in the words, or `None` if the power of ten is not
--- allowed.
+-- The count and power of ten of a counter, decoded from the words of Modbus registers, or `None` if
+-- the power of ten is not from -3 to 3.
 abbrev pub decode_counter : (first : ℕ) → List ℕ → (address : ℕ) → CounterScale → Option Shown
 decode_counter first words address scale =
     option_map (λ sf. record { raw = count_in first words address; sf = sf })
@@ -77,8 +78,8 @@ abbrev pub shown_by : (first : ℕ) → Option (List ℕ) → (address : ℕ) �
 shown_by first words address scale =
     option_and_then (λ all. decode_counter first all address scale) words
 
--- True if a read over a new link requested the span, and `shown` is the counter's value in the
--- words of that read.
+-- True if a read over a new link requested the given span of registers, and `shown` is the
+-- counter's value in the words of that read.
 pub record ReadsCounter (unit : ℕ) (span : Span)
     (old_bytes old_given new_bytes new_given : Option (List ℕ))
     (address : ℕ) (scale : CounterScale) (shown : Option Shown)
@@ -90,8 +91,8 @@ pub record ReadsCounter (unit : ℕ) (span : Span)
   pub given : end.given ≡ new_given
   pub shows : shown ≡ shown_by span.address words address scale
 
--- The effect of reading a counter whose registers are the given span. Without a span, nothing is
--- read and `shown` is `None`.
+-- The effect of reading an energy counter from a device, if `Some` span of registers contains the
+-- counter. For `None`, nothing is read and `shown` is `None`.
 abbrev pub ShowsCounter : (unit : ℕ) → Option Span
     → (old_bytes old_given new_bytes new_given : Option (List ℕ))
     → (address : ℕ) → CounterScale → Option Shown → Type 0

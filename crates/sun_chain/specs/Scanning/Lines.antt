@@ -18,16 +18,18 @@ use Rattle.sun_chain.specs.declared.scans.fault.ScanFault.TheVariants.{Gone, Fai
 use Rattle.sun_chain.specs.declared.scans.hearing.Turn.{Turn}
 use Rattle.sun_chain.specs.declared.scans.hearing.Turn.TheVariants.{Idle, More, Settled}
 
--- The state of a link to a device and its client: `bytes` are the bytes that later reads will
--- return, `given` those written until now, `open_bytes` an incomplete frame, and `next` the next
--- transaction identifier. Bytes are `None` if unknown.
+-- The state of a link to a device and its client. `bytes` are the bytes that later reads will
+-- return, `given` the bytes written until now, `open_bytes` an incomplete frame, and `next` the
+-- next transaction identifier. `bytes` or `given` is `None` if the link's contract states nothing
+-- about these bytes.
 pub record Line : Type 0 where
   pub bytes : Option (List ℕ)
   pub given : Option (List ℕ)
   pub open_bytes : List ℕ
   pub next : ℕ
 
--- The state of a link to a device with the given bytes and the given client.
+-- The state of a link to a device, given the bytes to read from it, the bytes written to it, and
+-- the Modbus client that uses it.
 abbrev pub line : (bytes given : Option (List ℕ)) → Client → Line
 line bytes given client = record {
   bytes = bytes;
@@ -73,7 +75,8 @@ pub record HearsAnswer (ask : Ask) (old_bytes new_bytes : Option (List ℕ))
   pub hears : Hears old_bytes new_bytes old_open new_open came
   pub answer : words ≡ unwrap_or (settled ask (frames (old_open ++ came))) None
 
--- True if the bytes that arrived have a length field that is out of range.
+-- True if the bytes that arrived over the link to the device have a length field of a frame that is
+-- out of range.
 pub record Garbles (old_bytes new_bytes : Option (List ℕ)) (old_open : List ℕ) : Type 0 where
   pub came : List ℕ
   pub took : Consumes old_bytes new_bytes came
@@ -95,8 +98,8 @@ pub record Tries (unit : ℕ) (old new : Line) (span : Span) (words : Option (Li
       words
   pub next : new.next ≡ next_id old.next
 
--- The effect of a read: one request if it returns words. Otherwise a second request follows, and
--- `words` are the registers that it returns.
+-- The effect of a read of registers: one request if this request returns words. Otherwise a second
+-- request follows, and `words` are the registers that the second request returns.
 pub data Reads (unit : ℕ) (old new : Line) (span : Span) (words : Option (List ℕ)) : Type 0 where
   AtOnce : (all : List ℕ) → words ≡ Some all → Tries unit old new span words
       → Reads unit old new span words
@@ -151,7 +154,7 @@ abbrev pub OnlyInquires : {X E : Type 0} → (unit : ℕ) → Result X E
 OnlyInquires unit result old new =
     (inquiries : List Inquiry) × GotText result (flat_map (inquiry_frame unit) inquiries) old new
 
--- True if the result is a failed read or write of the link to the device.
+-- True if the result of a call is that a read or write of the link to the device failed.
 abbrev pub has_failed : {X : Type 0} → Result X ScanFault → Bool
 has_failed (Ok x) = false
 has_failed (Err Gone) = false
@@ -159,7 +162,7 @@ has_failed (Err Failed) = true
 has_failed (Err Garbled) = false
 has_failed (Err Memory) = false
 
--- True if the result is that the device closed the connection.
+-- True if the result of a call is that the device closed the connection.
 abbrev pub is_gone : {X : Type 0} → Result X ScanFault → Bool
 is_gone (Ok x) = false
 is_gone (Err Gone) = true

@@ -1,4 +1,5 @@
--- Defines a scan of a device: a list of reads in order, and the words that the reads return.
+-- Defines a scan of a device: a list of reads, one after another, and the words that the reads
+-- return.
 use Rattle.std.specs.Prelude.{◌≡◌, ℕ, ◌≤◌, List, [], ◌∷◌, length, Some, None}
 use Rattle.std.specs.declared.option.Option.{Option}
 use Rattle.mb_wire.specs.Spans.{Span}
@@ -52,7 +53,8 @@ AsksInTurn word stage (exchange ∷ exchanges) =
     (stage_after (words_after word exchange) stage)
     exchanges
 
--- The effects of a list of reads on the link to the device, one after another.
+-- States how a list of Modbus reads, executed one after another, changes the state of the link to
+-- the device from `old` to `new`.
 abbrev pub Talks : (unit : ℕ) → Line → List Exchange → Line → Type 0
 Talks unit old [] new = old ≡ new
 Talks unit old (exchange ∷ exchanges) new =

@@ -69,7 +69,8 @@ abbrev pub may_stand : (models : ℕ) → Model → Bool
 may_stand models model =
     not (model.id == 0xFFFF) && nat_lt models 64 && nat_le (next_after model) ADDRESSES
 
--- The given model if it is valid, otherwise `None`.
+-- The given model if it is valid (not the chain's end, at most the 64th model, and ending at or
+-- before address 65535), otherwise `None`.
 abbrev pub checked : (models : ℕ) → Model → Option Model
 checked models model = if may_stand models model then Some model else None
 
@@ -77,16 +78,17 @@ checked models model = if may_stand models model then Some model else None
 abbrev pub model_at : (address id length : ℕ) → Model
 model_at address id length = record { address = address; id = id; length = length }
 
--- The valid model at an address after `models` models, or `None`. Its ID and its length must have
--- been read.
+-- The model at an address after `models` models, if its ID and its length were read. `None` if it
+-- ends the chain, is the 65th model, or ends past address 65535.
 abbrev pub model_in : Words → (models address : ℕ) → Option Model
 model_in word models address =
     option_and_then (λ id. option_and_then (λ length. checked models (model_at address id length))
     (word (address + 1)))
     (word address)
 
--- The stage of a scan after a read of a model's head (ID and length) that returned no words. The
--- scan reads the ID alone, because the end of the chain may be the device's last register.
+-- The stage of a scan (the search for a device's SunSpec models) after a read of a model's head (ID
+-- and length) that returned no words. The scan then reads the ID alone, because the end of the
+-- chain may be the device's last register.
 abbrev pub ending_at : (address : ℕ) → Stage
 ending_at address = if nat_lt address 65535 then Ending address else Over
 
@@ -110,8 +112,8 @@ stage_after word (Registers model asked models) =
     else head_at models (next_after model)
 stage_after word Over = Over
 
--- True if the registers that a stage reads have addresses below 65536, and the numbers in the stage
--- are within the limits of a scan.
+-- True if a stage (what a scan reads next) is within the limits of a scan: its registers have
+-- addresses below 65536, and at most 64 models were found.
 abbrev pub fits : Stage → Bool
 fits (Mark address) = nat_le address 50000
 fits (Head address models) = nat_le models 64

@@ -14,10 +14,11 @@ use mb_wire::{ADDRESSES, Link, MAX_READ_REGISTERS, ReadFunction, ReadSpan};
 use std::alloc::Global;
 use sun_points::{acc32, sunssf};
 
-/// The source of a counter's power of ten.
+/// Where the power of ten of a counter's unit comes from: a fixed number, or a `sunssf` register of
+/// the device.
 #[derive(Clone, Copy)]
 pub enum CounterScale {
-    /// A fixed power of ten, which is not read from the device.
+    /// A fixed power of ten for a counter's values, which is not read from the device.
     Fixed(i16),
     /// The `sunssf` register at this address of the device.
     Register(u16),
@@ -66,8 +67,8 @@ fn span_of(function: ReadFunction, address: u16, scale: CounterScale) -> Option<
     }
 }
 
-// Returns the word at an address, or 0 if the words do not include the address. The caller's span
-// includes each address that is needed.
+// Returns the word at an address, or 0 if the words do not include the address. A caller must first
+// have read every address for which it calls this function.
 fn word_at(first: u16, words: &[u16], address: u32) -> u16
     ensures { result ≡ specs.word_at first words.now address }
 {
@@ -81,8 +82,8 @@ fn allowed(sf: i16) -> Option<i16>
     if -3 <= sf && sf <= 3 { Some(sf) } else { None }
 }
 
-// Returns the power of ten in a sunssf register, or `None` if it is not implemented or not from -3
-// to 3.
+// Returns the power of ten in a sunssf register, or `None` if the register has the value for "not
+// implemented" or a power that is not from -3 to 3.
 fn decode_scale(word: u16) -> Option<i16>
     ensures { result ≡ specs.reported word }
 {
@@ -120,8 +121,9 @@ fn decode_counter(first: u16, words: &[u16], address: u16, scale: CounterScale) 
 /// `address`, high word first, and the register of the scale. One read requests all of these
 /// registers, and is retried once if it returns no words.
 ///
-/// Returns `None` if both tries return no words, or if the scale is not implemented or not from -3
-/// to 3. If one Modbus read cannot request all registers, returns `None` without sending a request.
+/// Returns `None` if neither the read nor its one retry returns registers. Also if the scale
+/// register is not implemented or its power of ten is not from -3 to 3. If one Modbus read cannot
+/// request all registers, returns `None` without sending a request.
 pub fn read_counter<L: Link>(
     alloc: Global,
     link: &mut L,

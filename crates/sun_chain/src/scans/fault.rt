@@ -1,4 +1,5 @@
-//! Faults that end a scan of a device, or the read of a counter, early.
+//! Faults that end a scan of a device (the search for its SunSpec models), or the read of a
+//! counter, early.
 use std::error::Error;
 use std::fmt;
 use std::fmt::{Display, Formatter};

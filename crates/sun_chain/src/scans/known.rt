@@ -1,4 +1,4 @@
-//! The SunSpec models whose points are known.
+//! The IDs of the SunSpec models for which the program has a table of points.
 ghost use Rattle.std.specs.Prelude.{◌≡◌};
 ghost use Rattle.sun_chain.specs.Scanning.Stages.{is_known};
 

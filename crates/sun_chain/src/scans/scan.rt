@@ -20,11 +20,11 @@ const END_ID: u16 = 0xFFFF;
 /// The first base address at which a scan searches for the `SunS` mark.
 const FIRST_MARK: u16 = 40000;
 
-/// The maximum number of models in a chain.
+/// The maximum number of SunSpec models in the chain that a scan of a device reads.
 const MOST_MODELS: u8 = 64;
 
-/// The state of a scan. The caller executes the read that `next` returns and reports its result,
-/// until `next` returns `None`.
+/// The state of a scan. The caller executes the read that `next` returns and reports the read's
+/// result, until `next` returns `None`.
 #[derive(Drop)]
 pub struct Scan {
     image: Image,
@@ -95,8 +95,8 @@ impl Scan {
         }
     }
 
-    /// Records that the device returned no words for the scan's next read, so that the scan
-    /// continues without them.
+    /// Records that the device returned no words for the next read of the scan (the search for the
+    /// device's SunSpec models). The scan continues without these words.
     pub fn unread(&mut self)
         ensures words { (address : ℕ) → words_of self.new address ≡ words_of self.old address }
         ensures stage { stage_of self.new ≡ stage_after (words_of self.new) (stage_of self.old) }
@@ -220,8 +220,8 @@ fn model_in(image: &Image, address: u16, models: u8) -> Option<Model>
     }
 }
 
-// Returns the stage of a scan after the head (ID and length) of a model was read. The registers are
-// read only if the model's points are known.
+// Returns the stage of a scan after the head (ID and length) of a model was read. The model's
+// registers are read only if the program has a table of the points of this model ID.
 fn in_model(model: Model, models: u8) -> Stage
     requires inside { next_after model ≤ ADDRESSES }
     requires few { models ≤ 64 }

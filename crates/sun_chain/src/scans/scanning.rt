@@ -50,8 +50,8 @@ fn take_in(scan: &mut Scan, span: ReadSpan, answer: Answer) -> Result<(), AllocE
 }
 
 /// Scans a unit over a new link to a device: the `SunS` mark, the ID and length of each model, and
-/// the registers of known models. A read that returns no words is retried once. The image has
-/// exactly the words of the responses.
+/// the registers of known models. A read that returns no words is retried once. The returned memory
+/// image has exactly the words of the responses.
 pub fn scan_over<L: Link, W: ScanObserver>(
     alloc: Global,
     link: &mut L,

@@ -1,4 +1,5 @@
--- Lemmas about a writer that receives several texts, one after another.
+-- Lemmas about a writer that receives several texts, one after another: it received the
+-- concatenation of the texts.
 use Rattle.std.proofs.Common.{◌≡◌, ◌+◌, ◌<◌, ℕ, Option, Some, None, List, [], ◌++◌, length, take, get_or, sym, ◌∙◌, ap, append_assoc, append-nil, arith}
 use Rattle.std.specs.List.{flat_map}
 use Rattle.std.specs.Prelude.{Ok, Err, OnOk}

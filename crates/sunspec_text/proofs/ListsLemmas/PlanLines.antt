@@ -1,5 +1,5 @@
--- Lemmas about the lines that are printed for a read plan, one for each read and one for each
--- point.
+-- Lemmas for the loops that print a read plan, one line for each read and one for each point: each
+-- step of a loop prints the next line.
 use Rattle.std.proofs.Common.{◌≡◌, ◌+◌, ◌<◌, ℕ, zero, suc, List, [], ◌∷◌, ◌++◌, length, take, get_or, sym, ◌∙◌, ap, append_assoc, append-nil, map, arith}
 use Rattle.std.specs.List.{flat_map}
 use Rattle.std.proofs.Math.Seq.{take-suc}

@@ -56,8 +56,8 @@ place_text PastEnd = []
 place_text TooMany = []
 place_text Memory = []
 
--- The line that reports why a device has no valid chain of SunSpec models. The line has the fault's
--- numeric code, and for some faults an address.
+-- The line that reports why a device has no complete chain of SunSpec models. The line has the
+-- fault's numeric code, and for some faults an address.
 abbrev pub fault_line : ChainFault → List ℕ
 fault_line fault =
     codes "fault " ++ decimal (chain_fault_number fault) ++ place_text fault ++ codes "\n"
@@ -71,15 +71,15 @@ IsWrong word (Unreadable address) = Fails word (Unreadable address)
 IsWrong word PastEnd = Fails word PastEnd
 IsWrong word TooMany = Fails word TooMany
 
--- States that the output is the line of the given chain fault, with status `Refused`. False for
--- `Memory`, because running out of memory prints no line.
+-- States that the output is the line that reports a fault of a SunSpec model chain, and that the
+-- exit status is `Refused`. False for `Memory`, because running out of memory prints no line.
 abbrev pub FaultPrints : ChainFault → (printed : List ℕ) → ExitStatus → Type 0
 FaultPrints fault printed Fine = ⊥
 FaultPrints fault printed Refused = (fault ≢ Memory) × (printed ≡ fault_line fault)
 FaultPrints fault printed Failed = ⊥
 
 -- States that the output is the lines of the SunSpec chain in a device's Modbus registers. If the
--- registers contain no valid chain, the output is the fault's line.
+-- registers contain no complete chain, the output is the fault's line.
 abbrev pub WordsPrint : Words → (printed : List ℕ) → ExitStatus → Type 0
 WordsPrint word printed Fine =
     (base : ℕ) × (models : List Model) × (end : ℕ) × IsChain word base models end
@@ -88,14 +88,15 @@ WordsPrint word printed Refused =
     (fault : ChainFault) × IsWrong word fault × (printed ≡ fault_line fault)
 WordsPrint word printed Failed = ⊥
 
--- States the output for the Modbus registers that the input lines describe. If a line is malformed,
--- the output is `bad line N` with the first such line's number.
+-- States the output of the command that prints a SunSpec chain, for the Modbus registers that the
+-- input lines describe. If a line is malformed, the output is `bad line N` with the first such
+-- line's number.
 abbrev pub LinesPrint : Result Words ℕ → (printed : List ℕ) → ExitStatus → Type 0
 LinesPrint (Err number) printed status = (status ≡ Refused) × (printed ≡ bad_line number)
 LinesPrint (Ok word) printed status = WordsPrint word printed status
 
--- States the output for a complete input, which describes Modbus registers. The output is `too
--- long` if the input exceeds the maximum length.
+-- States the output of the command that prints a SunSpec chain, for a complete input, which
+-- describes Modbus registers. The output is `too long` if the input exceeds the maximum length.
 pub record ChainPrints (input printed : List ℕ) (status : ExitStatus) : Type 0 where
   pub long : most_bytes < length input → (status ≡ Refused) × (printed ≡ too_long)
   pub lines : length input ≤ most_bytes

@@ -44,8 +44,9 @@ append_at None words = None
 append_at (Some address) None = None
 append_at (Some address) (Some words) = Some (record { address = address; words = words })
 
--- The content of a line `ADDRESS HEX`, split at its spaces. A line without hexadecimal digits is
--- valid and adds no registers.
+-- The address and the Modbus registers in a line `ADDRESS HEX` of a register image, whose words are
+-- given. A line without hexadecimal digits is valid and adds no registers. None if the line is
+-- malformed.
 abbrev pub write_said : List (List ℕ) → Option Put
 write_said [] = None
 write_said (address ∷ []) = append_at (address_of address) (Some [])

@@ -23,8 +23,9 @@ TextPrints text printed Refused =
     (faults_of text ≢ []) × (printed ≡ flat_map fault_line (faults_of text))
 TextPrints text printed Failed = ⊥
 
--- States the output for a complete input. If the input is too long, the output is `too long`,
--- otherwise the output is for the point list in the input.
+-- States the output of the command that prints the read plan of a point list, for a complete input.
+-- If the input is too long, the output is `too long`, otherwise the output is for the point list in
+-- the input.
 pub record ListPrints (input printed : List ℕ) (status : ExitStatus) : Type 0 where
   pub long : most_bytes < length input → (status ≡ Refused) × (printed ≡ too_long)
   pub text : length input ≤ most_bytes → TextPrints input printed status

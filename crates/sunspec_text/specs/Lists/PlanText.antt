@@ -19,23 +19,26 @@ abbrev pub read_head : (number function : ℕ) → List ℕ
 read_head number function =
     codes "read " ++ decimal number ++ codes " " ++ decimal function ++ codes " "
 
--- The rest of the line for a read, with the area, the first Modbus address and the number of Modbus
--- registers.
+-- The part of the line for a read after its function code: the area (no read has points of two
+-- areas), the first Modbus address and the number of Modbus registers.
 abbrev pub registers_text : PlannedRead → List ℕ
 registers_text read =
     decimal read.area ++ codes " " ++ decimal read.span.address ++ codes " "
     ++ decimal read.span.count
     ++ codes "\n"
 
--- The line `read K FUNCTION AREA ADDRESS COUNT`, with the given number and function code.
+-- The line `read K FUNCTION AREA ADDRESS COUNT` of a planned Modbus read, with the given number K
+-- and function code. AREA is the area number of the read's points (no read has points of two
+-- areas).
 abbrev pub span_line : (number function : ℕ) → PlannedRead → List ℕ
 span_line number function read = read_head number function ++ registers_text read
 
--- The line `read K FUNCTION AREA ADDRESS COUNT` of a read with number K.
+-- The line `read K FUNCTION AREA ADDRESS COUNT` of a planned Modbus read with number K. AREA is the
+-- area number of the read's points (no read has points of two areas).
 abbrev pub read_line : (number : ℕ) → PlannedRead → List ℕ
 read_line number read = span_line number (code_of read.span.function) read
 
--- The lines of the reads of a plan, numbered consecutively from the given number.
+-- The printed lines of the reads of a plan, numbered consecutively from the given number.
 abbrev pub read_lines : ℕ → List PlannedRead → List ℕ
 read_lines number [] = []
 read_lines number (read ∷ reads) = read_line number read ++ read_lines (number + 1) reads
@@ -47,8 +50,9 @@ pub record PlacedPoint : Type 0 where
   pub read : ℕ
   pub offset : ℕ
 
--- States that the point's read is the first read in the point's area that covers the point. The
--- offset counts Modbus registers from the first Modbus register of the read.
+-- States that the point's read is the first read that covers the point and is in the point's area
+-- (no read has points of two areas). The offset counts Modbus registers from the first Modbus
+-- register of the read.
 pub record IsPlaced (list : List ListedPoint) (reads : List PlannedRead) (placed : PlacedPoint) :
     Type 0 where
   pub first : IsFirstHolding (read_runs reads) (item_of list placed.point) placed.read
@@ -75,22 +79,23 @@ pub record PointsPrint (list points : List ListedPoint) (reads : List PlannedRea
   pub each : All (IsPlaced list reads) placed
   pub lines : printed ≡ flat_map point_line placed
 
--- States that the output is the lines of the plan's reads, followed by the lines of the list's
--- points.
+-- States that the output is the lines of the Modbus reads that cover a point list, followed by the
+-- lines of the list's points.
 pub record LinesPrint (list : List ListedPoint) (reads : List PlannedRead) (printed : List ℕ) : Type
     0 where
   pub points : List ℕ
   pub placed : PointsPrint list list reads points
   pub lines : printed ≡ read_lines 1 reads ++ points
 
--- States that the output is the lines of a valid read plan for the point list.
+-- States that the output is the lines of the point list's read plan. Each read has 1 to 125
+-- registers inside one area of the list, and each point lies in one read.
 pub record PlanPrints (list : List ListedPoint) (printed : List ℕ) : Type 0 where
   pub reads : List PlannedRead
   pub rule : FollowsRule (items_of list) (read_runs reads)
   pub lawful : IsLawful (runs_of list) (items_of list) (read_runs reads)
   pub lines : LinesPrint list reads printed
 
--- States that a valid point list prints its plan of Modbus reads, with status `Fine`.
+-- States that a point list without faulty rows prints its plan of Modbus reads, with status `Fine`.
 pub record PrintsPlan (list : List ListedPoint) (printed : List ℕ) (status : ExitStatus) :
     Type 0 where
   pub fine : status ≡ Fine

@@ -60,7 +60,7 @@ fn print_lines<W: Write>(alloc: Global, text: &[u8], output: &mut W) -> ExitStat
     }
 }
 
-/// Writes the chain of SunSpec models in an image of Modbus registers. If the image has no valid
+/// Writes the chain of SunSpec models in an image of Modbus registers. If the image has no complete
 /// chain, writes the fault's line.
 pub(crate) fn print_image<W: Write>(alloc: Global, image: &Image, output: &mut W) -> ExitStatus
     ensures { PrintsAs (WordsPrint (word_in image.now)) result
@@ -75,7 +75,8 @@ pub(crate) fn print_image<W: Write>(alloc: Global, image: &Image, output: &mut W
     }
 }
 
-/// Writes the line `fault N` for a chain fault, which explains why a device has no valid chain.
+/// Writes the line `fault N` for a chain fault, which explains why a device has no complete chain
+/// of SunSpec models.
 pub(crate) fn print_lack<W: Write>(fault: ChainFault, output: &mut W) -> ExitStatus
     ensures { PrintsAs (FaultPrints fault) result
         (W.contents output.old) (W.contents output.new) }

@@ -15,7 +15,7 @@ use sun_chain::{Image, ImageFault};
 /// The reason why lines `ADDRESS HEX` give no image of Modbus registers.
 #[derive(Clone, Copy)]
 pub(crate) enum LoadFault {
-    /// The line with this number is malformed, or extends past address 65,535.
+    /// The input line with this number is malformed, or its registers extend past address 65,535.
     BadLine(u64),
     Memory,
 }

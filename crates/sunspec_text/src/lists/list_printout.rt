@@ -10,11 +10,12 @@ use script_text::write_faults;
 use std::alloc::Global;
 use std::io::{Read, Write};
 
-/// Reads a point list in CSV, and prints its read plan.
+/// Reads a point list in CSV, and prints its plan, the Modbus reads that cover the points.
 ///
 /// Prints `read K FUNCTION AREA ADDRESS COUNT` for each read, with K from 1, then `point NAME K
-/// OFFSET` for each point. A faulty list prints only `row R fault N` for each faulty row; the
-/// header is row 1. An input of more than `MOST_BYTES` bytes prints only `too long`.
+/// OFFSET` for each point. AREA is the area number of the points (no read has points of two areas).
+/// A faulty list prints only `row R fault N` for each faulty row; the header is row 1. An input of
+/// more than `MOST_BYTES` bytes prints only `too long`.
 pub fn plan_text<R: Read, P: Printer>(alloc: Global, input: &mut R, output: &mut P) -> ExitStatus
     ensures { IfSome (R.remaining input.old)
         (PrintsFor P.Printer ListPrints result output.old output.new) }

@@ -13,7 +13,8 @@ use std::alloc::Global;
 use std::io::{self, Write};
 
 /// Prints the read plan of a point list: `read K FUNCTION AREA ADDRESS COUNT` for each read, with K
-/// from 1. Then prints `point NAME K OFFSET` for each point, in the list's order.
+/// from 1. AREA is the area number of the read's points (no read has points of two areas). Then
+/// prints `point NAME K OFFSET` for each point, in the list's order.
 pub fn print_plan<P: Printer>(alloc: Global, list: &PointList, output: &mut P) -> ExitStatus
     ensures { PrintsOn P.Printer (PrintsPlan list.now) result output.old output.new }
 {
@@ -36,7 +37,8 @@ pub(crate) fn plan_lines<W: Write>(alloc: Global, list: &PointList, output: &mut
     }
 }
 
-// Writes one line for each read of the plan, and then one line for each point of the list.
+// Writes one line for each read of a point list's plan (the Modbus reads that cover its points),
+// and then one line for each point of the list.
 fn print_lines<W: Write>(list: &PointList, plan: &Plan, output: &mut W) -> io::Result<()>
     requires items { plan.now.items ≡ items_of list.now }
     requires starts { plan.now.starts ≡ map (λ point. point.address) list.now }

@@ -20,10 +20,10 @@ use std::io::Write;
 use sun_chain::scans::{MOST_READS, MOST_TAKES, ScanFault, ScanObserver, scan_over};
 use sun_chain::{Chain, Image, walk};
 
-/// The form in which the result of a scan is printed.
+/// The form in which the SunSpec models that a scan of a device found are printed.
 #[derive(Clone, Copy)]
 pub enum ScanForm<'a> {
-    /// The chain of SunSpec models, in the format of `chain_text`.
+    /// The chain of SunSpec models, in the line format that the function `chain_text` prints.
     Chain,
     /// The list of the points in the SunSpec chain, in CSV.
     List,
@@ -34,9 +34,9 @@ pub enum ScanForm<'a> {
 /// Scans the device with a unit identifier over a new connection, and prints the device's chain of
 /// SunSpec models in the requested form.
 ///
-/// Prints only `fault N` if the device has no valid chain, and only `row R fault N` if its list
-/// would have too many points. If the connection fails, ends or carries no Modbus, returns the
-/// fault and prints nothing.
+/// Prints only `fault N` if the device has no complete chain of SunSpec models, and only `row R
+/// fault N` if the device's point list would have too many points. If the connection fails, ends or
+/// carries no Modbus, returns the fault and prints nothing.
 pub fn scan_text<L: Link, V: ScanObserver, P: Printer>(
     alloc: Global,
     link: &mut L,

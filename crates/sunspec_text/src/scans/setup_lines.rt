@@ -21,8 +21,8 @@ pub struct Site<'a> {
 struct Counter {
     point: &'static str,
     code: &'static str,
-    // The text before the line `register`: a comment mark for a counter of a single phase,
-    // otherwise empty.
+    // The text before the line `register`, which a scan suggests for this energy counter: a comment
+    // mark for a counter of a single phase, otherwise empty.
     front: &'static str,
 }
 
@@ -52,8 +52,9 @@ const HINT: &str =
 /// Returns the lines `N device ..` and `N list ..`, and for each energy counter of the device the
 /// lines `N register ..` and `N install ..`.
 ///
-/// The line `install` is a comment with the present count of the counter. The lines for a counter
-/// of one phase are all comments. N counts from 1. The point list is in hex.
+/// The line `install` is a comment that states the counter's present count. All lines for a counter
+/// of one phase are comments. In each line, N is the line's number, from 1. The point list is in
+/// hexadecimal.
 pub(crate) fn setup_text(
     alloc: Global,
     chain: &Chain<'_>,

@@ -1,5 +1,6 @@
-//! Compares the tables and indexes of a schema with short forms that describe the tables and
-//! indexes of the program. Each comparison is exact.
+//! Compares the tables and indexes of a database schema with those of the program, which are
+//! described by short forms such as `TableForm`. Each comparison returns true if and only if both
+//! are equal.
 ghost use Rattle.std.specs.Prelude.{◌≡◌, ◌↔◌, [], map, IsTrue};
 ghost use Rattle.sqlite_value.specs.Keys.{plain};
 ghost use Rattle.table_audit.specs.SchemaForms.{column_of, reference_of, table_of, index_of, no_stamps};
@@ -101,7 +102,8 @@ fn is_plain(order: &Order) -> bool
     order.digits == 0
 }
 
-// Returns true if the list `orders` has one plain (ascending) order for each UNIQUE of a table.
+// Returns true if the list `orders` has one plain (ascending) order for each UNIQUE constraint of a
+// table.
 fn are_plain(orders: &[Order], forms: &[&[usize]]) -> bool
     ensures { IsTrue result ↔ (orders.now ≡ map (λ form. plain) forms.now) }
 {
@@ -122,8 +124,8 @@ fn is_empty(checks: &Terms, stamps: &Stamps) -> bool
         && stamps.formats.is_empty()
 }
 
-/// Returns true if a table equals the table that a short form describes: in its name, columns, keys
-/// and foreign keys.
+/// Returns true if a table equals the table that `form` (a short description of one of the
+/// program's tables) describes: in its name, columns, keys and foreign keys.
 pub(crate) fn is_table(table: &Table, form: &TableForm) -> bool
     ensures { IsTrue result ↔ (table.now ≡ table_of form.now) }
 {
@@ -151,8 +153,8 @@ fn is_index(index: &Index, form: &IndexForm) -> bool
         && index.is_unique
 }
 
-/// Returns true if the indexes of a schema equal the indexes that the short forms describe, in the
-/// same order.
+/// Returns true if the indexes of a schema equal the indexes that `forms` describes in a short
+/// notation, in the same order.
 pub(crate) fn are_indexes(indexes: &[Index], forms: &[IndexForm]) -> bool
     ensures { IsTrue result ↔ (indexes.now ≡ map index_of forms.now) }
 {

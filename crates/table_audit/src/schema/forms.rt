@@ -14,8 +14,8 @@ pub struct KeyForm {
 }
 
 /// A STRICT table. `fault` is the fault of a file in which this table differs. `tree` is the number
-/// of its B-tree, and `key` the index of its INTEGER PRIMARY KEY among the columns. `primary` and
-/// `uniques` are indices into a row, which begins with the rowid.
+/// of the table's B-tree, and `key` the index of the INTEGER PRIMARY KEY among the columns.
+/// `primary` and `uniques` are indices into a row, which begins with the rowid.
 #[derive(Clone, Copy)]
 pub struct TableForm {
     pub fault: SchemaFault,

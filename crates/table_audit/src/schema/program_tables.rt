@@ -271,8 +271,8 @@ const TABLES: [TableForm; 13] = [
     },
 ];
 
-// Compares the tables of a schema with the tables that short forms describe. The error names the
-// first table that differs.
+// Compares the tables of a schema with the tables that `forms` (short descriptions of the program's
+// tables) describe. The error names the first table that differs.
 fn check_tables(tables: &[Table], forms: &[TableForm]) -> Result<(), SchemaFault>
     ensures same { OnOk result (tables.now ≡ map table_of forms.now) }
     ensures other { IfErr result (λ fault. tables.now ≢ map table_of forms.now) }

@@ -3,7 +3,7 @@ use Rattle.std.proofs.lemmas.Bool.{false≢true}
 use Rattle.command_words.specs.declared.line.Sealing.{Sealing}
 use Rattle.file_commands.specs.Audits.{Audits}
 use Rattle.table_audit.proofs.Looking.{looks_then}
-use Rattle.file_commands.proofs.Audited.{checked_audited, differences_printed, findings_printed, rows_on, seal_audited}
+use Rattle.file_commands.proofs.Audited.{checked_audited, differences_printed, findings_printed, json_printed, rows_on, seal_audited}
 use Rattle.file_commands.proofs.audits.audit_marked.Goals as goal
 
 pub returns-in-Print-clause-looks : goal.returns-in-Print-clause-looks
@@ -27,14 +27,20 @@ returns-in-Print-clause-audits g c = λ clean content holds.
 
 pub returns-then-not-is_fine-clause-audits : goal.returns-then-not-is_fine-clause-audits
 returns-then-not-is_fine-clause-audits g c = λ clean content holds.
-    differences_printed c.args.seal content c.in_ok-findings.findings _ _ c.write_audit.result (c.in_ok-findings.ensures.reports clean content holds)
-    (λ none. false≢true (sym c.if-not-is_fine.true ∙ c.is_fine.ensures.1 none)) c.write_audit.ensures.fine c.write_audit.ensures.reported
+    differences_printed c.args.seal content c.in_ok-findings.findings _ _ c.print_findings.result (c.in_ok-findings.ensures.reports clean content holds)
+    (λ none. false≢true (sym c.if-not-is_fine.true ∙ c.is_fine.ensures.1 none)) c.print_findings.ensures.fine c.print_findings.ensures.reported
 
 pub returns-in-Nothing-clause-audits : goal.returns-in-Nothing-clause-audits
 returns-in-Nothing-clause-audits g c = λ clean content holds.
-    let P : Sealing → Type 0 = λ s. IfOk c.write_audit-in-Nothing.result (Audits content s (g.W.Write.contents c.args.output.now) (g.W.Write.contents c.write_audit-in-Nothing.new.output)) in
-    subst P (sym c.in-Nothing.is) (findings_printed content c.in_ok-findings.findings _ _ c.write_audit-in-Nothing.result (c.in_ok-findings.ensures.reports clean content holds)
-    c.write_audit-in-Nothing.ensures.fine c.write_audit-in-Nothing.ensures.reported)
+    let P : Sealing → Type 0 = λ s. IfOk c.write_audit.result (Audits content s (g.W.Write.contents c.args.output.now) (g.W.Write.contents c.write_audit.new.output)) in
+    subst P (sym c.in-Nothing.is) (findings_printed content c.in_ok-findings.findings _ _ c.write_audit.result (c.in_ok-findings.ensures.reports clean content holds)
+    c.write_audit.ensures.fine c.write_audit.ensures.reported)
+
+pub returns-in-Json-clause-audits : goal.returns-in-Json-clause-audits
+returns-in-Json-clause-audits g c = λ clean content holds.
+    let P : Sealing → Type 0 = λ s. IfOk c.write_json_audit.result (Audits content s (g.W.Write.contents c.args.output.now) (g.W.Write.contents c.write_json_audit.new.output)) in
+    subst P (sym c.in-Json.is) (json_printed content c.in_ok-findings.findings _ _ c.write_json_audit.result (c.in_ok-findings.ensures.reports clean content holds)
+    c.write_json_audit.ensures.fine c.write_json_audit.ensures.reported)
 
 pub returns-clause-looks : goal.returns-clause-looks
 returns-clause-looks g c = λ idle.

@@ -11,7 +11,7 @@ use Rattle.interval_core.proofs.PlaceLemmas.{NotEarlier, account-at}
 use Rattle.interval_core.proofs.totals.place_of.Goals as goal
 
 -- Suppose that all day accounts (energies of civil days) after index `n` are of `day` or later. If
--- the account at `n` is too, then all accounts from `n` on are.
+-- the account at `n` is of `day` or later, then all accounts from `n` on are.
 one_more : (day : ℤ) (accounts : List DayAccount) (n : ℕ) (d : DayAccount) → n < length accounts → day ≤ℤ (get_or accounts n d).day
     → All (NotEarlier day) (drop (suc n) accounts) → All (NotEarlier day) (drop n accounts)
 one_more day accounts n d within here others =

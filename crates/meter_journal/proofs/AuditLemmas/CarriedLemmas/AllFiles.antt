@@ -1,5 +1,5 @@
--- Lemmas on the joint report of several database files about a meter that continues from each file
--- into the next.
+-- Lemmas: the joint report of several database files about a meter shows the state after one
+-- history of entries. The meter continues from each file into the next.
 use Rattle.std.proofs.Common.{◌≡◌, ℕ, ◌+◌, ◌≤◌, false, List, [], ◌∷◌, ◌++◌, map, refl, sym, ap, subst, ◌∙◌, arith}
 use Rattle.energy_core.specs.declared.entries.Entry.{Entry}
 use Rattle.energy_core.specs.declared.entries.Last.{Last}
@@ -35,8 +35,9 @@ record AreEntered (meter : Installed) (tables : Tables) : Type 0 where
   pub intervals : tables.intervals ≡ interval_rows meter (entering rows)
   pub ended : tables.ended ≡ has_closing (entering rows)
 
--- If the tables of one database file are consistent, then they report a meter's state after a list
--- of entries. None of these entries is voided (cancelled).
+-- If one database file's tables of a meter are consistent (those of entries that the rules for
+-- meter entries accept), they report a meter's state after a list of entries. None of these entries
+-- is voided (cancelled).
 fine_entered : (meter : Installed) (tables : Tables) → AreFine meter tables → AreEntered meter tables
 fine_entered meter tables fine =
     let alone = matching_rows_are_independent meter fine.rows fine.fit in

@@ -33,8 +33,8 @@ share start mwh = record { start = start; mwh = mwh }
 abbrev house : Installed
 house = installed 1000 5000
 
--- The meter's journal in the old database file. Its last entry, at 2550 s, is voided (cancelled),
--- so the meter continues in the new file from 2500 s.
+-- The meter's journal (history) in the old database file. Its last entry, at 2550 s, is voided
+-- (cancelled), so the meter continues in the new file from 2500 s.
 abbrev old : Journal
 old = Voided 4 ∷ read 2550 5305 ∷ read 2500 5300 ∷ read 1900 5200 ∷ []
 
@@ -56,8 +56,8 @@ old_fits = (
 carried_at_2500 : carried house old ≡ installed 2500 5300
 carried_at_2500 = refl
 
--- The meter's journal in the new database file: two readings. The first reading is in the quarter
--- hour in which the new file began.
+-- The meter's journal (history) in the new database file: two readings. The first reading is in the
+-- quarter hour in which the new file began.
 abbrev new : Journal
 new = read 3600 5400 ∷ read 2600 5310 ∷ []
 
@@ -82,14 +82,14 @@ total_of_both : total_in house (joined_journal old new) ≡ 400000
 unfolding unit_of
 total_of_both = refl
 
--- Entry 2 of the new file has sequence number 5 in the joined history, because the old file has
--- entries 2 to 4.
+-- Entry 2 of a meter in the new database file has sequence number 5 in the joined history of both
+-- files, because the old file has entries 2 to 4.
 void_of_both : joined_journal old (Voided 2 ∷ new)
     ≡ Voided 5 ∷ read 3600 5400 ∷ read 2600 5310 ∷ Voided 4 ∷ read 2550 5305 ∷ read 2500 5300 ∷ read 1900 5200 ∷ []
 void_of_both = refl
 
--- The rules accept a void (cancellation) of the new file's entry 2, both in the new file and in the
--- joined history of both files.
+-- The rules for meter entries accept a void (cancellation) of entry 2 of the new database file,
+-- both in the new file and in the joined history of both files.
 void_fits : AreFitting (installed 2500 5300) (Voided 2 ∷ new)
 unfolding unit_of
 void_fits = (
@@ -112,8 +112,8 @@ well_installed = record { raw = omega arith; scale = (grind (arith, ints), grind
 void_of_both_fits : AreFitting house (joined_journal old (Voided 2 ∷ new))
 void_of_both_fits = carried_journals_fit house old (Voided 2 ∷ new) well_installed old_fits refl void_fits stays_within
 
--- If an entry of the new file is voided (cancelled), one step from 2500 s to 3600 s replaces two
--- steps in the joined history.
+-- If an entry of the new database file is voided (cancelled), one step (energy between entries)
+-- from 2500 s to 3600 s replaces two steps in the joined history.
 void_intervals : interval_rows house (joined_journal old (Voided 2 ∷ new)) ≡ share 900 177777 ∷ share 1800 140404 ∷ share 2700 81819 ∷ []
 unfolding unit_of
 void_intervals = refl
@@ -136,7 +136,7 @@ second_goes_on = record { unended = refl; range = refl; ceiling = refl; opening 
 third_goes_on : GoesOnAs second.meter second.tables.last second.tables.ended third.meter
 third_goes_on = record { unended = refl; range = refl; ceiling = refl; opening = refl }
 
--- The meter of the third file does not continue from the first database file if the second file is
+-- The meter of the third database file does not continue from the first file if the second file is
 -- left out.
 third_not_after_first : GoesOnAs house first.tables.last first.tables.ended third.meter → ⊥
 third_not_after_first h = let at : 3600 ≡ 2500 = ap (λ (l : Last). l.at) h.opening in omega (arith, at)

@@ -1,5 +1,5 @@
--- Lemmas on the tables of an old and a new database file, for a meter that continues from the old
--- file into the new file.
+-- Lemmas: if a meter continues from an old database file into a new file, the tables of both files
+-- together are those of one meter.
 use Rattle.std.proofs.Common.{◌≡◌, ℕ, ◌+◌, ◌-◌, ◌<◌, Bool, true, false, cond, List, [], ◌∷◌, ◌++◌, map, take, length, append_assoc, refl, sym, ap, subst, ◌∙◌, arith}
 use Rattle.std.specs.Prelude.{ℤ}
 use Rattle.std.proofs.lemmas.List.{length-append}
@@ -30,8 +30,8 @@ use Rattle.meter_journal.proofs.AuditLemmas.CarriedLemmas.Fitting.{HasRoom, fits
 use Rattle.meter_journal.proofs.AuditLemmas.CarriedLemmas.Over.{left_by, last_over, follow_over, steps_over, total_over, entries_over, place_over}
 use Rattle.meter_journal.proofs.AuditLemmas.CarriedLemmas.Quarters.{rows_of_both, counted_once}
 
--- If the rules accept the rows of the old database file, then the meter's opening (first entry) in
--- the new file is valid.
+-- If the rules for meter entries accept the meter's rows in the old database file, then the meter's
+-- opening (first entry) in the new file is valid.
 well_from : (meter : Installed) (old : List EntryRow) → IsWellInstalled meter → AllFit meter old → IsWellInstalled (carried_from meter old)
 well_from meter old well h =
     let sound = accounts_are_sound meter.range meter.opening (entries_in old) _ _ well.raw well.scale (fitting_account meter old well h) in
@@ -94,8 +94,8 @@ carried_tables_are_one law meter old new well h unended new_h =
       ended = ended_over count new old unended;
     }
 
--- Lemmas: if the rules accept the rows of each of two database files, and the energy stays within
--- its limit, they accept the joined rows.
+-- Lemmas: if the rules for meter entries accept a meter's rows in each of two database files, and
+-- the energy stays within its limit, they accept the joined rows.
 
 come_over : (meter : Installed) (es old : List Entry) (stands : Bool) (k : EntryKind) (e : Entry) → ((last_after (left_by meter old) es).raw < meter.range)
     → HasRoom meter es old e → MayCome (left_by meter old) es stands k e → MayCome meter (es ++ old) stands k e

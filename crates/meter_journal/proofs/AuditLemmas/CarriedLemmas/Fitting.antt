@@ -1,5 +1,5 @@
--- Lemmas: if the rules accept a line of a meter's journal in a new database file, they accept it in
--- the joined journal of both files.
+-- Lemmas: if the rules for meter entries accept a line of a meter's journal (history) in a new
+-- database file, they accept it in the joined journal of both files.
 use Rattle.std.proofs.Common.{◌≡◌, ℕ, ◌+◌, ◌*◌, ◌^◌, ◌<◌, ◌≤◌, ◌==◌, Bool, true, false, cond, ◌&&◌, nat_lt, if◌then◌else◌, List, [], ◌∷◌, ◌++◌, map, length, Option, Some, None, Ok, refl, sym, ap, subst, ◌∙◌, inl, inr, arith}
 use Rattle.std.specs.List.{find}
 use Rattle.std.specs.Option.{option_map, option_or}
@@ -40,8 +40,8 @@ use Rattle.meter_journal.proofs.AuditLemmas.CarriedLemmas.Over.{left_by, last_ov
 abbrev pub terms_of : Installed → (total : ℕ) → Terms
 terms_of meter total = record { ceiling = meter.ceiling; total = total }
 
--- States that the joined journal of both database files, with one more entry, has at most the
--- energy that one meter may have: 4 * 10^18 mWh.
+-- States that the joined journal (history) of both database files, with one more entry, has at most
+-- the energy that one meter may have: 4 * 10^18 mWh.
 abbrev pub HasRoom : Installed → (es old : List Entry) → Entry → Type 0
 HasRoom meter es old e = total_after meter (es ++ old) + energy_of meter.range (last_after (left_by meter old) es) e ≤ 4 * 10 ^ 18
 
@@ -125,8 +125,8 @@ held_still range last reading None false fuller c up h = absurd (cc)
 fuller_too : (limit total more step : ℕ) → total ≤ more → nat_lt limit (total + step) ≡ true → nat_lt limit (more + step) ≡ true
 fuller_too limit total more step le h = grind (arith, nat_tests, le, h)
 
--- If the rules reject a reading at some total energy of the meter, they reject it for the same
--- cause at any greater total energy.
+-- If the rules for meter entries reject a reading at some total energy of the meter, they reject it
+-- for the same cause at any greater total energy.
 held_more : (range ceiling total more : ℕ) (last : Last) (reading : Reading) (c : Cause) → total ≤ more
     → verdict_of range (record { ceiling = ceiling; total = total }) last reading ≡ verdict.Held c
     → verdict_of range (record { ceiling = ceiling; total = more }) last reading ≡ verdict.Held c
@@ -257,9 +257,9 @@ rolled_entry l n at raw rolls on reading is =
 reads : (k : EntryKind) (e : Entry) → is_read k e ≡ true → is_reading k ≡ true
 reads k e h = by_read (λ k e. is_reading k ≡ true) (λ at raw rolls. refl) k e h
 
--- Suppose that the total energy of both files is within its limit. If the rules accept a reading in
--- the new file without the voided (cancelled) entry before it, they also accept it in the joined
--- history.
+-- Suppose that a meter's total energy in both database files is within its limit, and that an entry
+-- of the new file is voided (cancelled). If the rules then accept the next reading in the new file,
+-- they also accept it in the joined history.
 plausible_over : (meter : Installed) (es old : List Entry) (n : EntryRow) (e : Entry) (later : List Entry) (whole : ℕ)
     → n.entry ≡ e → n.stands ≡ true → is_reading n.kind ≡ true
     → AllFollow meter.range (last_after meter old) (later ++ (rolled (last_after (left_by meter old) es) n).entry ∷ es)

@@ -1,4 +1,5 @@
--- Lemmas on the rows and entries of a meter's journal that continues in another database file.
+-- Lemmas: if a meter's journal (history) continues in another database file, the rows, entries and
+-- energies of the joined journal are those of both files.
 use Rattle.std.proofs.Common.{◌≡◌, ℕ, ◌+◌, ◌==◌, true, false, ◌&&◌, List, [], ◌∷◌, ◌++◌, map, length, Some, refl, sym, ap, subst, ◌∙◌, inl, inr, arith, eq-eqb}
 use Rattle.std.proofs.lemmas.Bool.{cases_Bool, cond-true, cond-false, eqb-true}
 use Rattle.std.proofs.lemmas.Bool.Decides.{nat_tests}

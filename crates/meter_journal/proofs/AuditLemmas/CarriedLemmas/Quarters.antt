@@ -1,5 +1,5 @@
--- Lemmas on the energies by quarter hour (interval rows) of a meter's journal that continues in
--- another file.
+-- Lemmas on merging the interval rows (energies by quarter hour) of two database files: merging is
+-- associative, and preserves the total energy and the set of quarter hours.
 use Rattle.std.proofs.Common.{◌≡◌, ℕ, ◌+◌, ◌==◌, Bool, true, false, cond, ◌||◌, List, [], ◌∷◌, ◌++◌, refl, sym, ap, subst, ◌∙◌, arith, eq-eqb}
 use Rattle.std.specs.Prelude.{ℤ, filter}
 use Rattle.std.specs.List.{list_any}
@@ -92,8 +92,8 @@ rows_of_both (step ∷ steps) old =
 abbrev pub passing : (ℕ → Bool) → List Share → List Share
 passing f rows = filter (λ (row : Share). f row.start) rows
 
--- States that the rows of two lists whose starts pass the test `f` have the same total energy and
--- the same set of starts.
+-- States that, in two lists of interval rows, the rows whose starts satisfy the predicate `f` have
+-- the same total energy and the same set of starts.
 pub record CountTheSame (f : ℕ → Bool) (xs ys : List Share) : Type 0 where
   pub energy : energy_of (passing f xs) ≡ energy_of (passing f ys)
   pub any : (p : ℕ → Bool) → list_any p (starts_of (passing f xs)) ≡ list_any p (starts_of (passing f ys))
@@ -188,8 +188,8 @@ seam f row share shares true at =
     (seam_from f row.start row.mwh share.mwh shares (f row.start) refl)
 seam f row share shares false off = count_same f (row ∷ share ∷ shares)
 
--- Merging quarter-hour energies into interval rows preserves the total energy and the set of
--- quarter hours of both lists.
+-- If a list of quarter-hour energies is merged into a list of interval rows, the result has the
+-- total energy and the quarter hours of both lists.
 pub both_count : (f : ℕ → Bool) (rows shares : List Share) → CountTheSame f (with_shares rows shares) (rows ++ shares)
 both_count f [] shares = count_same f shares
 both_count f (row ∷ []) [] = count_same f (row ∷ [])

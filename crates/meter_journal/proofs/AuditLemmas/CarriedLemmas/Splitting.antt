@@ -1,5 +1,5 @@
--- Lemmas: if the rules accept lines of a meter's journal in the old database file, they accept them
--- in a new file that continues the meter.
+-- Lemmas: if the rules for meter entries accept lines of a meter's journal (history) in the old
+-- database file, they accept them in a new file that continues the meter.
 use Rattle.std.proofs.Common.{◌≡◌, ◌≢◌, ℕ, ◌+◌, ◌-◌, ◌<◌, ◌≤◌, ◌==◌, Bool, true, false, cond, List, [], ◌∷◌, ◌++◌, map, length, Option, Some, None, Ok, refl, sym, ap, subst, ◌∙◌, inl, inr, arith}
 use Rattle.std.specs.List.{find}
 use Rattle.std.specs.Option.{option_map, option_or}
@@ -179,9 +179,9 @@ next_there meter count before old (Some n) more h =
     plausible_there meter (entries_in before) (entries_in old) n.entry more
     (subst (λ (es : List Entry). IsPlausibleNext meter es n.entry) (entries_over count before old) h)
 
--- States that the lines `later` are the renumbered lines of a journal in the new database file that
--- the rules accept. The sequence numbers in voids (cancellations) are raised by `count`, the number
--- of old entries.
+-- States that the lines `later` are the renumbered lines of a journal (history) in the new database
+-- file that the rules for meter entries accept. The sequence numbers in voids (cancellations) are
+-- raised by `count`, the number of old entries.
 record IsMoved (meter : Installed) (count : ℕ) (lines later : Journal) : Type 0 where
   more : Journal
   moved : map (moved_line count) more ≡ later

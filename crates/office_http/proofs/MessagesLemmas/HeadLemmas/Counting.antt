@@ -11,7 +11,8 @@ abbrev pub lines_after : Bool → List (List ℕ) → List (List ℕ)
 lines_after true lines = text_lines lines
 lines_after false lines = head_lines lines
 
--- The number of a request head's lines among the lines that a scan has not read yet.
+-- The number of lines of a request head that a scan has not read yet. `seen` is true if the scan
+-- has already read a nonempty line of the head.
 abbrev pub count_after : Bool → List (List ℕ) → ℕ
 count_after seen lines = length (lines_after seen lines)
 

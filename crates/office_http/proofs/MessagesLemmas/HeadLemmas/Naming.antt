@@ -1,4 +1,4 @@
--- Lemmas on finding the headers of a request by their names.
+-- Lemmas: a loop over the headers of a request finds the values of all headers with a given name.
 use Rattle.std.proofs.Common.{◌≡◌, ◌∙◌, ℕ, ◌+◌, ◌<◌, Bool, true, false, List, [], ◌∷◌, ◌++◌, length, get_or, take, map, refl, sym, ap, subst, arith}
 use Rattle.std.specs.Prelude.{if◌then◌else◌, IsTrue, ◌↔◌}
 use Rattle.std.specs.Str.{bytes_eq}

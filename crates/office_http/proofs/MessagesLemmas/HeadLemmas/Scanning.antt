@@ -6,8 +6,9 @@ use Rattle.std.proofs.lemmas.Bool.{cond-true, cond-false, eq-eqb, ne_eqb}
 use Rattle.std.proofs.lemmas.List.{take_more, drop_more, get_or-drop, drop_all}
 use Rattle.office_http.specs.Messages.Head.Lines.{ended_lines, is_empty_line, is_ended}
 
--- True if the lines that a scan has not read yet contain the end of the request head. The flag is
--- true if the scan already found a nonempty line.
+-- True if the lines that a scan has not read yet contain the empty line that ends a request head.
+-- The first argument is true if the scan already found a nonempty line. Until then, empty lines
+-- don't end the head.
 abbrev pub ends_after : Bool → List (List ℕ) → Bool
 ends_after true lines = list_any is_empty_line lines
 ends_after false lines = is_ended lines

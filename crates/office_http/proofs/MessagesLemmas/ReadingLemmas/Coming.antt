@@ -1,4 +1,5 @@
--- Lemmas on the bytes of a request that arrive in several reads.
+-- Lemmas on the bytes of a request that arrive in several reads: whether these bytes are complete,
+-- and whether the last read was necessary.
 use Rattle.std.proofs.Common.{◌≡◌, ◌∙◌, ℕ, ◌+◌, true, List, ◌++◌, length, Err, ap, sym, subst, arith, append_assoc, length-append}
 use Rattle.std.specs.declared.option.Option.{Option}
 use Rattle.std.specs.Io.KnownBytes.{Keeps}
@@ -34,14 +35,14 @@ came-kept old mid new r s t came same kept = record {
   consumed = Consumes-kept r s t came.chunk came.consumed kept;
 }
 
--- A read that fails while the request head is incomplete adds no bytes.
+-- If a read fails while the request head is incomplete, then the read adds no bytes to the buffer.
 pub fails_after : (fault : TakeFault) (old mid new : List ℕ) (r s t : Option (List ℕ)) → Came old mid r s → TakesOn {X = Unit {0}} (Err fault) mid new s t → IsOpenHead mid → ReadsHead (Err fault) old new r t
 fails_after Read old mid new r s t came on goes_on = (came-kept old mid new r s t came on.0 on.1, subst IsOpenHead (sym on.0) goes_on, tt)
 fails_after Short old mid new r s t came on goes_on = (came-kept old mid new r s t came on.0 on.1, subst IsOpenHead (sym on.0) goes_on, on.2)
 fails_after TurnsUsed old mid new r s t came on goes_on = (came-kept old mid new r s t came on.0 on.1, subst IsOpenHead (sym on.0) goes_on, tt)
 
--- If the received bytes were incomplete before the last read (as the condition `GoesOn` defines),
--- then the last read was necessary.
+-- If the bytes received before the last read satisfy `GoesOn` (the request is still incomplete),
+-- then the reads satisfy `TakesWhatLacks`: the last read was necessary.
 pub stops_after : (GoesOn : List ℕ → Type 0) (old mid new : List ℕ) (last : Option LastTake) (earlier chunk : List ℕ) → mid ≡ old ++ earlier → GoesOn mid
     → new ≡ mid ++ chunk → length new ≡ length mid + brought last → TakesWhatLacks GoesOn old new last
 stops_after GoesOn old mid new last earlier chunk came goes_on is size = record {

@@ -1,4 +1,5 @@
--- Lemmas on a buffer that is filled by consecutive reads of a client's connection.
+-- Lemmas: a buffer that is filled by consecutive reads has exactly the bytes that the client's
+-- connection delivered in these reads.
 use Rattle.std.proofs.Common.{◌≡◌, ◌∙◌, ℕ, ◌+◌, ◌≤◌, List, ◌++◌, length, take, refl, sym, ap, subst, arith}
 use Rattle.std.proofs.lemmas.List.{length-take-le, take-take}
 use Rattle.std.proofs.lemmas.Slice.{take-put_mid}

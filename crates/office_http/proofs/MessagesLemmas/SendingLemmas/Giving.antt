@@ -1,4 +1,5 @@
--- Lemmas on the bytes of a response that are sent to a client's connection in parts.
+-- Lemmas: if the bytes of a response are written or buffered in parts, a prefix of them is written
+-- to the client's connection, and all of them if no write fails.
 use Rattle.std.proofs.Common.{◌≡◌, ◌∙◌, ℕ, Bool, true, false, List, [], ◌++◌, Option, Result, Ok, Err, refl, sym, ap, subst, append_assoc, is_err, not, ◌&&◌}
 use Rattle.std.specs.Io.KnownBytes.{Appends}
 use Rattle.std.proofs.KnownBytes.{Appends-nil, Appends-trans, Keeps-refl, Keeps-trans}
@@ -7,7 +8,7 @@ use Rattle.mb_wire.specs.Links.{Gives, risen}
 use Rattle.office_http.specs.Messages.Sending.Sending.{OnlyGives, Outgoing, Puts, Sends}
 
 -- If the buffered bytes and further bytes are written to the client's connection with one write,
--- then the further bytes are sent.
+-- then the further bytes count as sent after the buffered bytes.
 pub Sends-given : {X E : Type 0} (result : Result X E) (base a b : Option (List ℕ)) (buffered kept : List ℕ) (old new : Bool) (all more : List ℕ) → old ≡ false → new ≡ is_err result → kept ≡ []
     → Sends base a buffered old all → (left : List ℕ) → buffered ++ more ≡ left → Gives result a b left → Sends base b kept new (all ++ more)
 Sends-given (Ok x) base a b buffered kept old new all more works failed none so_far left is gives =
@@ -53,8 +54,8 @@ Sends-lost base a buffered old all more failed so_far = record {
   whole = λ w. absurd cc;
 }
 
--- If the buffered bytes are written to the client's connection, then the response has the same
--- bytes as before.
+-- If the buffered bytes are written to the client's connection, then all bytes of the response,
+-- written or buffered, are the same as before this write.
 pub Sends-flushed : {X E : Type 0} (result : Result X E) (base a b : Option (List ℕ)) (buffered kept : List ℕ) (old new : Bool) (all : List ℕ) → old ≡ false → new ≡ is_err result → kept ≡ []
     → Sends base a buffered old all → Gives result a b buffered → Sends base b kept new all
 Sends-flushed result base a b buffered kept old new all works failed none so_far gives =
@@ -93,15 +94,15 @@ Puts-then {x = x} {y = y} {z = z} {s = s} {t = t} first next = record {
   link = OnlyGives-then first.link next.link;
 }
 
--- Without a failed write and with an empty write buffer, the client's connection has received all
--- bytes of the response.
+-- If no write failed and the write buffer is empty, then all bytes of the response were written to
+-- the client's connection.
 pub Sends-all : (base given : Option (List ℕ)) (buffered : List ℕ) (failed : Bool) (all : List ℕ) → failed ≡ false → buffered ≡ [] → Sends base given buffered failed all → Appends base given all
 Sends-all base given buffered failed all works none sends =
     let order : all ≡ sends.sent = sends.in_order ∙ ap (λ l. sends.sent ++ l) (sends.whole works ∙ none) ∙ append-nil sends.sent in
     subst (Appends base given) (sym order) sends.came
 
--- If the client's connection has received nothing since the time of `base`, and the write buffer is
--- empty, no byte of a response was sent.
+-- If the write buffer is empty, and nothing was written to the client's connection since an earlier
+-- time (`base`), then no byte of a response was sent since.
 pub HasPut-none : (base given : Option (List ℕ)) (buffered : List ℕ) (failed : Bool) → given ≡ base → buffered ≡ [] → Sends base given buffered failed []
 HasPut-none base given buffered failed same none = record {
   sent = [];

@@ -103,8 +103,8 @@ abbrev pub unless_fault : Option BodyFault → Command → Result Command BodyFa
 unless_fault None c = Ok c
 unless_fault (Some fault) c = Err fault
 
--- The command in the JSON body of a request with this route, or the fault of the body. The result
--- is `Malformed` for routes of queries, and for the route whose body is CSV.
+-- The command in the JSON body of a request with the given route, or the fault of the body. The
+-- result is `Malformed` for routes of queries, and for the route whose body is CSV.
 abbrev pub command_of : Route → Option (List ℕ) → Data → Result Command BodyFault
 command_of route.Devices name d = unless_fault (fault_of device_members d) (add_device d)
 command_of route.List name d = Err Malformed

@@ -37,13 +37,14 @@ pub record GivesJson (at : Route) (name : Option (List ℕ)) (bytes : List ℕ)
   pub is : IsJson bytes value
   pub gives : given ≡ reported (command_of at name value)
 
--- True if the bytes are not a JSON text, and the result is `Malformed`.
+-- True if the bytes of a command's body are not a JSON text, and `Malformed` is the result of
+-- parsing them.
 pub record IsNoJson (bytes : List ℕ) (given : Result Command CommandFault) : Type 0 where
   pub none : (d : Data) → IsJson bytes d → ⊥
   pub gives : given ≡ Err Malformed
 
--- True if the result is possible for parsing these bytes as a JSON body. The result `Memory` (out
--- of memory) is possible for any bytes.
+-- True if the result is possible for parsing the given bytes as a JSON body. The result `Memory`
+-- (out of memory) is possible for any bytes.
 abbrev pub IsBody : Route → Option (List ℕ) → (bytes : List ℕ) → Result Command CommandFault
     → Type 0
 IsBody at name bytes given =
@@ -57,7 +58,7 @@ pub record GivesList (name : Option (List ℕ)) (bytes : List ℕ) (c : Command)
   pub planned : IsPlanned list
   pub is : c ≡ PutList (record { device = name; list = list })
 
--- True if the result is possible for parsing these bytes as a point list (CSV rows with the
+-- True if the result is possible for parsing the given bytes as a point list (CSV rows with the
 -- registers to poll). The result `Memory` (out of memory) is possible for any bytes.
 abbrev pub IsListBody : Option (List ℕ) → (bytes : List ℕ) → Result Command CommandFault → Type 0
 IsListBody name bytes (Ok c) = GivesList name bytes c
@@ -66,8 +67,8 @@ IsListBody name bytes (Err Negative) = ⊥
 IsListBody name bytes (Err (Faulty rows)) = AreFaults (list_faults (rows_read bytes)) rows
 IsListBody name bytes (Err Memory) = Unit {0}
 
--- True if the result is possible for parsing these bytes as the body of a request with this route.
--- The result `Memory` (out of memory) is possible for any bytes.
+-- True if the result is possible for parsing these bytes as the body of a request with the given
+-- route. The result `Memory` (out of memory) is possible for any bytes.
 abbrev pub Gives : Route → Option (List ℕ) → (bytes : List ℕ) → Result Command CommandFault → Type 0
 Gives route.List name bytes given = IsListBody name bytes given
 Gives route.Devices name bytes given = IsBody route.Devices name bytes given

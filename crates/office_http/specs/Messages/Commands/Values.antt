@@ -36,7 +36,8 @@ natural_in member d = magnitude (integer_in member d)
 abbrev pub optional_in : List ℕ → Data → Option ℕ
 optional_in member d = option_map magnitude (whole member d)
 
--- The range of a meter's counter, or the full 32-bit range if the body has no range.
+-- The range of a meter's counter (how many values it has). It is 2^32 if the JSON body that
+-- installs the meter gives no range.
 abbrev pub or_full_range : Option ℕ → ℕ
 or_full_range None = MAX_RANGE
 or_full_range (Some range) = range

@@ -9,7 +9,7 @@ use Rattle.office_http.specs.declared.messages.head.headers.Given.TheVariants.{N
 abbrev pub same_name : List ℕ → List ℕ → Bool
 same_name one other = bytes_eq (map to_ascii_lowercase one) (map to_ascii_lowercase other)
 
--- The values of all headers of a request that have this name, in their order.
+-- The values of all headers of a request that have the given name, in their order.
 abbrev pub values_of : List ℕ → List (List ℕ × List ℕ) → List (List ℕ)
 values_of name [] = []
 values_of name (header ∷ headers) =

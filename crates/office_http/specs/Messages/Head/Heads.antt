@@ -8,7 +8,7 @@ use Rattle.office_http.specs.declared.messages.head.head.Head.{Head}
 use Rattle.office_http.specs.declared.messages.head.head.HeadState.{HeadState}
 use Rattle.office_http.specs.declared.messages.head.head.HeadState.TheVariants.{Open, TooLarge, NoHead, Whole}
 
--- True if the first `n` bytes are this request head, with at most 64 headers in at most 8,192
+-- True if the first `n` bytes are the given request head, with at most 64 headers in at most 8,192
 -- bytes.
 pub record IsHead (bytes : List ℕ) (n : ℕ) (h : RequestHead) : Type 0 where
   pub reads : ReadsRequest bytes h (drop n bytes)
@@ -32,7 +32,8 @@ pub record IsBadHead (bytes : List ℕ) : Type 0 where
   pub none : HasNoHead bytes
   pub over : (has_head_end (front_of bytes) ≡ true) ⊎ (8192 ≤ length bytes)
 
--- True if the bytes have no request head within the limits, but more bytes can complete a head.
+-- True if the bytes have no end of a request head, but are fewer than 8,192 bytes, the limit of a
+-- head. More bytes can therefore complete a head.
 pub record IsOpenHead (bytes : List ℕ) : Type 0 where
   pub none : HasNoHead bytes
   pub goes_on : has_head_end (front_of bytes) ≡ false
@@ -44,8 +45,8 @@ abbrev pub is_past_limits : List ℕ → Bool
 is_past_limits bytes =
     not (has_head_end (front_of bytes)) || nat_lt 65 (length (lines_of_head (front_of bytes)))
 
--- True if the spans of the parsed head cover the method, the target and the headers of `h` in the
--- bytes.
+-- True if the spans (byte ranges) of the parsed head `at` select the method, the target and the
+-- headers of the request head `h` from the bytes.
 pub record Covers (bytes : List ℕ) (at : Head) (h : RequestHead) : Type 0 where
   pub method : span_bytes bytes at.method ≡ h.method
   pub target : span_bytes bytes at.target ≡ h.target
@@ -59,8 +60,8 @@ pub record IsPlaced (bytes : List ℕ) (at : Head) : Type 0 where
   pub len : at.len ≤ length bytes
   pub headers : All (IsHeaderWithin (length bytes)) (take at.count at.headers)
 
--- True if the bytes begin with a request head within the limits, and `at` has the spans of its
--- parts.
+-- True if the bytes begin with a request head within the limits for its size and number of headers,
+-- and `at` has the spans of the head's parts.
 abbrev pub IsHeadAt : List ℕ → Head → Type 0
 IsHeadAt bytes at =
     ((h : RequestHead) × (IsHead bytes at.len h × Covers bytes at h)) × IsPlaced bytes at

@@ -7,8 +7,8 @@ use Rattle.office_http.specs.declared.messages.sending.outbox.Outbox.{Outbox}
 abbrev pub buffered_in : Outbox → List ℕ
 buffered_in outbox = take outbox.filled outbox.buffered
 
--- The progress of a response: the bytes that the client's connection received, the bytes in the
--- write buffer, and whether a write failed.
+-- The progress of a response: the bytes that were written to the client's connection, the bytes in
+-- the write buffer, and whether a write failed.
 abbrev pub progress : (given : Option (List ℕ)) → Outbox → Progress
 progress given outbox = record {
   given = given;

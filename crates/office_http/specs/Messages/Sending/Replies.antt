@@ -10,13 +10,13 @@ status_line status =
     codes "HTTP/1.1 " ++ decimal (number_of_status status) ++ codes " " ++ reason_of_status status
     ++ codes "\r\n"
 
--- The head of a JSON response whose body has this size in bytes.
+-- The head of a JSON response whose body has the given size in bytes.
 abbrev pub json_head : Status → ℕ → List ℕ
 json_head status size =
     status_line status ++ codes "Content-Type: application/json\r\nContent-Length: " ++ decimal size
     ++ codes "\r\nConnection: close\r\n\r\n"
 
--- The bytes of a JSON response with this status and body.
+-- The bytes of a JSON response with the given status and body.
 abbrev pub json_reply : Status → List ℕ → List ℕ
 json_reply status body = json_head status (length body) ++ body
 

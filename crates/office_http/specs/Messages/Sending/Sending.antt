@@ -5,8 +5,9 @@ use base.Fml.{GName}
 use Rattle.mb_wire.specs.Links.{risen}
 use Rattle.mb_wire.specs.declared.link.LastTake.{LastTake}
 
--- True if the client's connection, which had received `base` before the response, has now received
--- a prefix of the response `all`. If no write failed, the write buffer has exactly the rest.
+-- True if a prefix of the response `all` was written to the client's connection, after the bytes
+-- `base` of the time before the response. If no write failed, the write buffer has exactly the
+-- remaining bytes of `all`.
 pub record Sends (base given : Option (List ℕ)) (buffered : List ℕ) (failed : Bool) (all : List ℕ) :
     Type 0 where
   pub sent : List ℕ
@@ -15,8 +16,8 @@ pub record Sends (base given : Option (List ℕ)) (buffered : List ℕ) (failed 
   pub came : Appends base given sent
   pub whole : failed ≡ false → left ≡ buffered
 
--- The progress of a response: the bytes that the client's connection received, the bytes in the
--- write buffer, and whether a write failed.
+-- The progress of a response: the bytes that were written to the client's connection, the bytes in
+-- the write buffer, and whether a write failed.
 pub record Progress : Type 0 where
   pub given : Option (List ℕ)
   pub buffered : List ℕ
@@ -47,8 +48,8 @@ pub record Outgoing : Type 0 where
   pub buffered : List ℕ
   pub failed : Bool
 
--- True if `all` are the bytes of the response so far, which the client's connection received after
--- the bytes `base`. The last bytes may still be in the write buffer.
+-- True if `all` are the bytes of the response so far, which were written to the client's connection
+-- after the bytes `base`. The last bytes may still be in the write buffer.
 abbrev pub HasPut : Option (List ℕ) → Outgoing → List ℕ → Type 0
 HasPut base out all = Sends base out.given out.buffered out.failed all
 

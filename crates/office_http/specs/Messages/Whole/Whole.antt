@@ -47,8 +47,8 @@ pub record LacksBody (table : Table) (bytes : List ℕ) : Type 0 where
 abbrev pub IsUnfinished : Table → List ℕ → Type 0
 IsUnfinished table bytes = IsOpenHead bytes ⊎ LacksBody table bytes
 
--- True if the bytes have a complete request with this head, or an invalid head of this kind. False
--- for the state Open (an incomplete head).
+-- True if the bytes have a complete request with the given head, or an invalid head of the given
+-- kind. False for the state Open (an incomplete head).
 abbrev pub Holds : Table → List ℕ → HeadState → Type 0
 Holds table bytes Open = ⊥
 Holds table bytes TooLarge = Looks bytes TooLarge
@@ -68,9 +68,9 @@ ReadsRequest table (Ok head_state) old new before after =
 ReadsRequest table (Err fault) old new before after =
     Came old new before after × IsUnfinished table new × EndsAt fault after
 
--- True if the result is the query or command of a complete request, or the status that rejects it:
--- 431 for a head past the limits, 400 for a malformed head, otherwise the status of the first
--- failed test.
+-- True if the result is the query or command of a complete request, or the status that rejects the
+-- request. This is 431 for a head past the limits for its size, 400 for a malformed head, otherwise
+-- the status of the first test that the head fails.
 abbrev pub TestsRequest : Table → List ℕ → HeadState → Result Ask Status → Type 0
 TestsRequest table bytes Open result = ⊥
 TestsRequest table bytes TooLarge result = result ≡ Err FieldsTooLarge
@@ -81,8 +81,8 @@ TestsRequest table bytes (Whole at) result = TestsHead table (start_at bytes at)
 abbrev pub body_of : Table → List ℕ → Head → List ℕ
 body_of table bytes at = take (body_size table (start_at bytes at)) (drop at.len bytes)
 
--- True if the bytes begin with a complete request that has this body, and a head within the limits
--- with this method, target and headers.
+-- True if the bytes begin with a complete request that has the given body, and a head within the
+-- limits with the given method, target and headers.
 pub record HoldsRequest (table : Table) (bytes : List ℕ) (start : Start) (body : List ℕ) : Type 0
   where
     pub head : RequestHead

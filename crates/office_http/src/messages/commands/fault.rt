@@ -12,7 +12,8 @@ pub enum CommandFault {
     Malformed,
     /// All required members exist, but a number that must not be negative is negative.
     Negative,
-    /// The body is a point list (CSV rows with the registers to poll) with these faulty rows.
+    /// The body is a point list (CSV rows with the registers to poll), and the given rows of it are
+    /// faulty.
     Faulty(FaultyRows),
     /// Out of memory.
     Memory,

@@ -20,19 +20,20 @@ pub struct Head {
     pub headers: [HeaderSpan; MOST_HEADERS],
     /// The number of headers. The entries of `headers` from this index on are unused.
     pub count: usize,
-    /// The size of the head in bytes, including the empty line at its end.
+    /// The size of the request head in bytes, including the empty line at its end.
     pub len: usize,
 }
 
 /// The result of looking for the head of a request in the received bytes.
 #[derive(Clone, Copy)]
 pub enum HeadState {
-    /// An incomplete head: its end has not arrived.
+    /// An incomplete head of an HTTP request: its end has not arrived.
     Open,
     /// A head past the limits: the first 8,192 bytes have no end of the head, or more than 64 lines
     /// follow the request line.
     TooLarge,
-    /// A malformed head: it ends within the limits, but is not the head of an HTTP request.
+    /// A malformed head: it ends within the limits (8,192 bytes, 64 lines after the request line),
+    /// but is not the head of an HTTP request.
     NoHead,
     /// A complete request head within the limits.
     Whole(Head),
@@ -49,7 +50,8 @@ impl HeadState {
     }
 }
 
-// Returns the request head at the start of the bytes, if it is complete and within the limits.
+// Returns the request head at the start of the bytes, if the head is complete and within the limits
+// for its size and number of headers.
 fn head_of(bytes: &[u8]) -> Option<Head>
     ensures head { IfSome result (IsHeadAt bytes.now) }
     ensures none { IsNone result → HasNoHead bytes.now }

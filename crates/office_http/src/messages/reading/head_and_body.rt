@@ -11,8 +11,8 @@ use crate::messages::reading::inbox::{Inbox, TakeFault};
 use mb_wire::Link;
 
 /// Reads from a client's connection until the buffer has a complete or an invalid request head. The
-/// returned state is never `Open`. Fails if a read fails, the input ends, or the buffer has made
-/// 100,000 reads.
+/// returned state is never `Open` (an incomplete head). Fails if a read fails, the input ends, or
+/// the buffer has made 100,000 reads.
 pub fn read_head<L: Link>(inbox: &mut Inbox<'_>, link: &mut L) -> Result<HeadState, TakeFault>
     requires { 8192 ≤ room_of inbox.old }
     ensures reads { ReadsHead result (bytes_in inbox.old) (bytes_in inbox.new)

@@ -16,7 +16,7 @@ pub enum TakeFault {
     Read,
     /// The input ended before the request was complete.
     Short,
-    /// The buffer has made 100,000 reads.
+    /// The request was not complete after 100,000 reads, the maximum for a buffer.
     TurnsUsed,
 }
 

@@ -17,7 +17,8 @@ pub fn refused_body(number: u8) -> Text
     text
 }
 
-/// Formats the JSON body of a response that reports any other error by its HTTP status code.
+/// Formats the JSON body of an error response that reports no refusal. The body has the response's
+/// HTTP status code: `{"fault":CODE}`.
 pub fn fault_body(status: Status) -> Text
     ensures { result ≡ fault_text status }
 {

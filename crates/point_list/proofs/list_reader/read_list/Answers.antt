@@ -15,7 +15,7 @@ list_below-requires c =
     (sym c.deref.ensures.value ∙ c.in-Some.ensures.cases.0) c.in_ok-rows.ensures
 
 -- If the rows below the header of a CSV text have no fault and encode a point list, the complete
--- text encodes that list.
+-- text encodes this point list.
 list-of-text : (text : List ℕ) (header : List (List ℕ)) (rows : List (List (List ℕ))) (result : Result (List ListedPoint) ListFault) → header ∷ rows ≡ rows_read text
     → is_header header ≡ true → IfOk result (λ list. (faults_below rows ≡ []) × SpellEach rows list) → IfOk result (λ list. SpellsList text list)
 list-of-text text header rows (Ok list) read headed ok = spells-list text header rows list read headed ok.0 ok.1

@@ -1,4 +1,5 @@
--- Lemmas on the queues of bytes that wait to be sent to each device.
+-- Lemmas: bytes that are queued for one device are appended to this device's send queue, and the
+-- queues of all other devices are unchanged.
 use Rattle.std.proofs.Common.{◌≡◌, inl, inr, ℕ, ◌<◌, ◌≤◌, List, [], ◌++◌, length, set, get_or, map, Bool, true, false, cond, Some, None, sym, ap, ◌∙◌}
 use Rattle.std.proofs.lemmas.List.{append-nil, map-set}
 use Rattle.std.proofs.lemmas.Option.{slice_get-get_or, slice_get-map, slice_get_past}
@@ -8,8 +9,8 @@ use Rattle.std.specs.Option.{option_map}
 use Rattle.office_events.specs.declared.events.Event.{Event}
 use Rattle.run_http.specs.Status.Monitor.Output.{IsPut, IsSentTo, kept, sent_in, sent_to, taken_at, taken_in}
 
--- After the Modbus frames of an event are queued, the queue has all these frames, or none of them
--- if memory ran out.
+-- After the Modbus frames of an event are queued, the device's send queue has all these frames, or
+-- none of them if memory ran out.
 pub write_or_not : (e : Event) (frames old left new : List ℕ) (done : Bool) → left ≡ kept e old
     → new ≡ cond done (left ++ frames) left → IsPut e frames old new
 write_or_not e frames old left new true was is = inl (is ∙ ap (λ xs. xs ++ frames) was)

@@ -40,8 +40,8 @@ abbrev pub emptied : Queue → Queue
 emptied queue =
     if is_written queue then record { put = []; written = 0; dropped = queue.dropped } else queue
 
--- True if the number of dropped lines must now be reported, because lines were dropped and no bytes
--- wait.
+-- True if the number of dropped log lines must now be reported, because lines were dropped and no
+-- bytes wait to be written to the log.
 abbrev pub is_due : Queue → Bool
 is_due queue = not (queue.dropped == 0) && is_written queue
 
@@ -50,14 +50,14 @@ is_due queue = not (queue.dropped == 0) && is_written queue
 abbrev pub reported : (at : ℕ) → Queue → Queue
 reported at queue = record { put = with_dropped at queue.dropped []; written = 0; dropped = 0 }
 
--- States that, if `due` is true and memory suffices, the line with the number of dropped lines is
--- added to the queue.
+-- States that, if `due` is true and memory suffices, a line that gives the number of dropped log
+-- lines is added to the queue of log lines.
 abbrev pub ReportsDroppedBy : (due : Bool) → (at : ℕ) → (old new : Queue) → Type 0
 ReportsDroppedBy true at old new = (new ≡ reported at old) ⊎ (new ≡ emptied old)
 ReportsDroppedBy false at old new = new ≡ old
 
--- States that the line with the number of dropped lines is added to the queue if lines were
--- dropped, no bytes wait, and memory suffices.
+-- States that, if log lines were dropped, no bytes wait to be written, and memory suffices, the
+-- line with the number of dropped lines is added to the queue.
 abbrev pub ReportsDropped : (at : ℕ) → (old new : Queue) → Type 0
 ReportsDropped at old new = ReportsDroppedBy (is_due old) at old new
 
@@ -72,7 +72,8 @@ has_room text queue =
 abbrev pub kept : (text : List ℕ) → Queue → Queue
 kept text queue = record queue { put = queue.put ++ text }
 
--- The queue of log lines after the lines of the text were dropped and counted.
+-- The queue of log lines if the lines of the text are dropped: only the count of dropped lines
+-- grows, by the number of these lines.
 abbrev pub left_out : (text : List ℕ) → Queue → Queue
 left_out text queue =
     record queue { dropped = min (queue.dropped + line_count text) (2 ^ 64 - 1) }
@@ -83,8 +84,8 @@ abbrev pub PutsBy : (room : Bool) → (text : List ℕ) → (old new : Queue) �
 PutsBy true text old new = (new ≡ kept text old) ⊎ (new ≡ left_out text old)
 PutsBy false text old new = new ≡ left_out text old
 
--- States that the text is added to the line queue if the queue has room and memory suffices.
--- Otherwise the lines of the text are dropped and counted.
+-- States that the text is added to the queue of log lines if the queue has room and memory
+-- suffices. Otherwise the lines of the text are dropped and counted.
 abbrev pub PutsAfter : (text : List ℕ) → (old new : Queue) → Type 0
 PutsAfter text old new = PutsBy (has_room text old) text old new
 

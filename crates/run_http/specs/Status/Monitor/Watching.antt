@@ -26,7 +26,7 @@ is_reading (note.Reading meter raw rolls step) = true
 is_reading (note.Held meter raw cause) = false
 
 -- True if the device is connected after the event `Connected`. If the program refused the event,
--- the value is the same as before.
+-- the device is connected exactly if it was connected before (`before`).
 abbrev pub connected_by : (before : Bool) → Result Answer Refusal → Bool
 connected_by before (Ok given) = true
 connected_by before (Err why) = before
@@ -65,15 +65,15 @@ abbrev pub followed_at : ℕ → (at : ℕ) → Event → Result Answer Refusal 
 followed_at place at e answer notes states =
     followed_in place (slice_get states place) at e answer notes states
 
--- The states of all devices after this event. An event that concerns no single device changes no
--- state.
+-- The states of all devices, as `/status` shows them, after one event. An event that concerns no
+-- single device changes no state.
 abbrev pub followed_for : Option ℕ → (at : ℕ) → Event → Result Answer Refusal → List Note
     → List DeviceState → List DeviceState
 followed_for None at e answer notes states = states
 followed_for (Some place) at e answer notes states = followed_at place at e answer notes states
 
--- The counts after an event. If the program refused the event, the refusal is counted.
--- Notifications of polls and readings are counted too.
+-- The counts of polls, readings and refusals after an event. If the program refused the event, the
+-- refusal is counted. Notifications of polls and readings are counted too.
 abbrev pub counted : Result Answer Refusal → List Note → Counts → Counts
 counted (Ok given) notes counts = noted_all notes counts
 counted (Err why) notes counts = noted_all notes (refused counts)

@@ -39,14 +39,15 @@ held_for cause counts =
           (one_more (slice_index counts.held (cause_number cause - 1)));
     }
 
--- The counts after one notification: an ended poll, an accepted reading or a rejected reading.
+-- The counts of `/status` after one notification: an ended poll, an accepted reading or a rejected
+-- reading.
 abbrev pub noted : Note → Counts → Counts
 noted (note.Outcome poll outcome) counts = ended outcome counts
 noted (note.Reading meter raw rolls step) counts =
     record counts { readings = one_more counts.readings }
 noted (note.Held meter raw cause) counts = held_for cause counts
 
--- The counts after a list of notifications of ended polls and readings, in order.
+-- The counts of `/status` after a list of notifications of ended polls and readings, in order.
 abbrev pub noted_all : List Note → Counts → Counts
 noted_all [] counts = counts
 noted_all (one ∷ notes) counts = noted_all notes (noted one counts)

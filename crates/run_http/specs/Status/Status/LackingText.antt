@@ -6,23 +6,23 @@ use Rattle.run_http.specs.declared.status.advice.lacks.DeviceLack.{DeviceLack}
 use Rattle.run_http.specs.declared.status.advice.lacks.Lack.{Lack}
 use Rattle.run_http.specs.declared.status.advice.lacks.Lack.TheVariants.{NoDevice, NoList, NoRegister, NotInList, NoMeter}
 
--- The text, followed by the text `before` and a name. Without a name, only `before` is appended.
+-- A text with the text `before` and a name appended. Without a name, only `before` is appended.
 abbrev pub with_name : (before text : List ℕ) → Option (List ℕ) → List ℕ
 with_name before text None = text ++ before
 with_name before text (Some name) = text ++ before ++ name
 
--- The text, followed by the text `before` and the name of the device for which something is missing
--- in the store.
+-- Appends two texts to a given text: first `before`, then the name of the device for which
+-- something is missing in the store.
 abbrev pub with_device : (before text : List ℕ) → DeviceLack → List ℕ
 with_device before text lack = with_name before text lack.device
 
--- The text, followed by the text `before`, the name of an accounting register, and the end of its
--- JSON object.
+-- A text with the text `before`, the name of an accounting register (a named energy counter), and
+-- the end of its JSON object appended.
 abbrev pub with_register : (before text : List ℕ) → Register → List ℕ
 with_register before text register = text ++ before ++ register.name ++ codes "\"}"
 
--- The JSON of one thing that is missing for a device, with the accounting register that it
--- concerns, if any.
+-- The JSON of one thing that is missing for a device, with the accounting register (a named energy
+-- counter) that it concerns, if any.
 abbrev pub with_what : (text : List ℕ) → Lack → List ℕ
 with_what text NoDevice = text ++ codes "\",\"lack\":\"no_device\"}"
 with_what text NoList = text ++ codes "\",\"lack\":\"no_list\"}"

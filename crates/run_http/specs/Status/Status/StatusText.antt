@@ -5,13 +5,13 @@ use Rattle.run_http.specs.declared.status.advice.lacks.DeviceLack.{DeviceLack}
 use Rattle.run_http.specs.declared.status.status.counts.Counts.{Counts}
 use Rattle.run_http.specs.declared.status.status.status.DeviceState.{DeviceState}
 
--- The text with `before` and a device's name appended. JSON need not escape names, which consist of
--- letters, digits, `_` and `-`.
+-- A text with the text `before` and a device's name appended. JSON need not escape names, which
+-- consist of letters, digits, `_` and `-`.
 abbrev pub with_name_of : List ℕ → (before : List ℕ) → Option (List ℕ) → List ℕ
 with_name_of text before None = text ++ before
 with_name_of text before (Some name) = text ++ before ++ name
 
--- The text, followed by the text `before` and the name of a device.
+-- A text with the text `before` and the name of a device appended.
 abbrev pub with_name : List ℕ → (before : List ℕ) → DeviceState → List ℕ
 with_name text before device = with_name_of text before device.name
 

@@ -1,7 +1,9 @@
 //! Finds what is missing in the store for a polled device: the device, its point list (the
-//! registers to poll), an accounting register, or an open meter.
+//! registers to poll), an accounting register (a named energy counter), or an open meter.
 //!
-//! The program records the energy of the device only if nothing is missing.
+//! The program records the energy of a polled device only if the store has four things. These are
+//! the device, its point list, an accounting register (a named energy counter) in the list, and an
+//! open meter.
 ghost use Rattle.std.specs.Prelude.{◌≡◌};
 ghost use Rattle.std.specs.Option.{option_map};
 ghost use Rattle.office_books.specs.Ledgers.{Finds, OnlyReads};
@@ -14,19 +16,19 @@ use read_plan::PlannedRead;
 use std::alloc::AllocError;
 
 /// Something that is missing in the store for a device. Without it, the program records no energy
-/// of the device, or of one accounting register (`NotInList`, `NoMeter`).
+/// of the device, or of one accounting register (a named energy counter) (`NotInList`, `NoMeter`).
 #[derive(Clone, Copy)]
 pub enum Lack {
     /// The store has no device with the name on the command line.
     NoDevice,
     /// The device has no point list (the registers to poll) in the store.
     NoList,
-    /// The device has no accounting register in the store.
+    /// The device has no accounting register (a named energy counter) in the store.
     NoRegister,
     /// No read of the device's point list covers both the counter and the scale of this accounting
-    /// register.
+    /// register (a named energy counter).
     NotInList(Register),
-    /// This accounting register has no open meter.
+    /// This accounting register (a named energy counter) has no open meter.
     NoMeter(Register),
 }
 
@@ -38,15 +40,15 @@ pub struct DeviceLack {
 }
 
 // Returns whether one of the planned reads covers the counter and the scale of the accounting
-// register.
+// register (a named energy counter).
 fn is_read(reads: &[PlannedRead], register: &Register) -> bool
     ensures { result ≡ specs.is_read reads.now register.now }
 {
     reads.iter().any(|read| is_read_by(read.span, register))
 }
 
-// Returns whether a Modbus read of the device's point list covers the accounting register. Returns
-// true without a point list, because the program then reports `NoList`.
+// Returns whether a Modbus read of the device's point list covers the accounting register (a named
+// energy counter). Returns true without a point list, because the program then reports `NoList`.
 fn is_in_list(list: &Option<PlannedList>, register: &Register) -> bool
     ensures { result ≡ specs.is_in_list list.now register.now }
 {
@@ -87,7 +89,8 @@ fn has_device<B: Books>(books: &mut B, name: &Name) -> Result<bool, BooksFault>
     Ok(has_name(&books.devices()?, name))
 }
 
-// Adds the device and the missing thing `lack` to the list if `is_lacking` is true.
+// Adds the device and the missing thing `lack` to the list of missing things if `is_lacking` is
+// true.
 fn add(
     lacks: &mut Vec<DeviceLack>,
     device: &Name,
@@ -142,8 +145,8 @@ fn add_of_registers<B: Books>(
     Ok(())
 }
 
-// Adds to the list each thing that is missing in the store for a device (such as an open meter).
-// The store must have the device.
+// Adds to the list of missing things each thing that is missing in the store for a device (such as
+// an open meter). The store must have the device.
 fn add_of_device<B: Books>(
     lacks: &mut Vec<DeviceLack>,
     books: &mut B,
@@ -160,8 +163,9 @@ fn add_of_device<B: Books>(
     add_of_registers(lacks, books, device, &list, &registers)
 }
 
-// Adds to the list each thing that is missing in the store for the device `name` (such as an open
-// meter). If the store has no device with that name, adds `NoDevice`.
+// Adds to the list `lacks` each thing that the store lacks for polling the device `name` or for
+// recording its energy (such as an open meter). If the store has no device with that name, adds
+// `NoDevice`.
 fn add_of_name<B: Books>(
     lacks: &mut Vec<DeviceLack>,
     books: &mut B,
@@ -179,14 +183,15 @@ fn add_of_name<B: Books>(
 }
 
 /// Adds to a list each thing that is missing for a device in the records of the store. Nothing is
-/// missing if these conditions hold.
+/// missing if all conditions of the list below hold.
 ///
 /// - The store has the device.
-/// - The device has a point list and an accounting register.
-/// - Each of its accounting registers lies in a read of the list and has an open meter.
+/// - The device has a point list and an accounting register (a named energy counter).
+/// - Each accounting register (a named energy counter) of the device lies in a Modbus read of the
+///   point list and has an open meter.
 ///
-/// The device is `None` for a name that is not valid. If the store fails or memory runs out, the
-/// list may be incomplete.
+/// The argument `device` is `None` if the device's name is not valid. If the store fails or memory
+/// runs out, not everything that the device lacks is added to `lacks`.
 pub fn add_lacks<B: Books>(
     lacks: &mut Vec<DeviceLack>,
     books: &mut B,

@@ -6,17 +6,18 @@ ghost use Rattle.run_http.specs.Status.Advice.Reported as specs;
 use office_events::Name;
 use std::alloc::{AllocError, Global};
 
-/// The most devices and meters whose last reported error number is remembered.
+/// The maximum number of devices and meters whose last reported error number is remembered.
 pub const MOST_REPORTED: usize = 512;
 
-/// The topic of a message with an error number.
+/// What a message with an error number is about: a device's connection, its polling round, or a
+/// meter.
 #[derive(Clone, Copy, PartialEq, Eq)]
 pub enum Topic {
-    /// The number says why the program refused a device's connection.
+    /// The error number says why the program refused a device's connection.
     Connection,
-    /// The number says why the program refused an event other than a connection of a device.
+    /// The error number says why the program refused a device's event that is not a connection.
     Round,
-    /// The number says why the program rejected a meter's reading.
+    /// The error number says why the program rejected a meter's reading.
     Meter,
 }
 
@@ -24,7 +25,8 @@ impl Topic {
     ghost use Rattle.std.specs.Prelude.{◌≡◌};
     ghost use Rattle.run_http.specs.Status.Advice.Reported.{topic_number};
 
-    // Returns a number for the topic of a message, by which two topics are compared.
+    // Returns the numeric code of a message's topic (a connection, a polling round or a meter). Two
+    // topics are equal if their codes are equal.
     fn number(self) -> u8
         ensures { result ≡ topic_number self }
     {
@@ -61,7 +63,8 @@ impl ReportedNumber {
     ghost use Rattle.std.specs.Prelude.{◌≡◌};
     ghost use Rattle.run_http.specs.Status.Advice.Reported as specs;
 
-    // Returns whether two entries have the same topic and the same device or meter.
+    // Returns whether two entries of the list of reported error numbers have the same topic and the
+    // same device or meter.
     fn is_of_same(&self, other: &ReportedNumber) -> bool
         ensures { result ≡ specs.are_of_same self.now other.now }
     {
@@ -89,14 +92,16 @@ impl Reported {
         }
     }
 
-    // Returns the index of the list entry with the topic and the device or meter of `reported`.
+    // Returns the index of the entry in the list of reported error numbers that has the topic and
+    // the device or meter of `reported`.
     fn place_of(&self, reported: &ReportedNumber) -> Option<usize>
         ensures { result ≡ specs.place_of reported.now self.now.numbers.items }
     {
         self.numbers.iter().position(|one| one.is_of_same(reported))
     }
 
-    // Adds a list entry for a device or meter. Fails if memory runs out.
+    // Adds an error number of a device or meter to the list of those that messages to the operator
+    // already explained. Fails if memory runs out.
     fn push(&mut self, topic: Topic, name: Option<Name>, number: u8) -> Result<(), AllocError>
         ensures { self.new.numbers.items
             ≡ specs.pushed (is_ok result) (specs.reported_number topic name number)
@@ -110,7 +115,8 @@ impl Reported {
         Ok(())
     }
 
-    // Adds a list entry for a device or meter, and returns whether room and memory sufficed for it.
+    // Adds an entry for a device or meter to the list of reported error numbers, and returns
+    // whether room and memory sufficed for it.
     fn add(&mut self, reported: ReportedNumber) -> bool
         ensures { specs.Adds reported self.old.numbers.items self.new.numbers.items result }
     {
@@ -120,8 +126,8 @@ impl Reported {
                 .is_ok()
     }
 
-    // Replaces the error number of the list entry at an index, and returns whether the new number
-    // differs from the old number.
+    // Replaces the error number that was last reported for a device or meter (the list entry
+    // `place`), and returns whether the new number differs from the old one.
     fn change(&mut self, place: usize, reported: ReportedNumber) -> bool
         ensures { specs.Changes place reported self.old.numbers.items self.new.numbers.items result }
     {
@@ -135,10 +141,13 @@ impl Reported {
         true
     }
 
-    /// Records the error number of a device or meter, and returns whether to report the number.
+    /// Records the error number (such as the cause of a meter's rejected readings) of a device or
+    /// meter. Returns whether to report the number, which is so if it differs from the last
+    /// reported one.
     ///
-    /// A number is reported if it differs from the last number on the same topic. If the list has
-    /// no room for a device or meter, then no number about that device or meter is reported.
+    /// An error number is reported if it differs from the last number that was reported for the
+    /// same device or meter on the same topic. If the list of reported numbers is full, no number
+    /// of a further device or meter is reported.
     pub fn report_once(&mut self, reported: ReportedNumber) -> bool
         ensures { specs.ReportsNumber reported self.old.numbers.items self.new.numbers.items result }
     {

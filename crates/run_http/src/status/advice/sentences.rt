@@ -9,7 +9,8 @@ use office_events::{Command, Event, Name, Refusal, Register, ScaleSource};
 use printed_numbers::{Kind, Meaning, meaning_of};
 use std::alloc::AllocError;
 
-// Appends the device's name to a message, or `-` if the message concerns no single device.
+// Appends the device's name to a message for operators, or `-` if the message concerns no single
+// device.
 fn write_subject(text: &mut Vec<u8>, device: &Option<Name>) -> Result<(), AllocError>
     ensures { OnOk result (text.new.items ≡ sentences.with_subject device.now text.old.items) }
 {
@@ -19,7 +20,8 @@ fn write_subject(text: &mut Vec<u8>, device: &Option<Name>) -> Result<(), AllocE
     }
 }
 
-// Returns the first Modbus address that a reading of the accounting register needs.
+// Returns the first Modbus address that a reading of the accounting register (a named energy
+// counter) needs.
 fn first_needed(register: &Register) -> u64
     ensures { result ≡ sentences.first_needed register.now }
 {
@@ -30,7 +32,8 @@ fn first_needed(register: &Register) -> u64
     }
 }
 
-// Returns the last Modbus address that a reading of the accounting register needs.
+// Returns the last Modbus address that a reading of the accounting register (a named energy
+// counter) needs.
 fn last_needed(register: &Register) -> u64
     ensures { result ≡ sentences.last_needed register.now }
 {
@@ -41,8 +44,8 @@ fn last_needed(register: &Register) -> u64
     }
 }
 
-// Appends to a message the name of the device whose point list does not cover an accounting
-// register.
+// Appends to a message for operators the name of the device whose point list does not cover an
+// accounting register (a named energy counter).
 fn write_list_of(text: &mut Vec<u8>, device: &Option<Name>) -> Result<(), AllocError>
     ensures { OnOk result (text.new.items ≡ sentences.with_list_of device.now text.old.items) }
 {
@@ -52,8 +55,8 @@ fn write_list_of(text: &mut Vec<u8>, device: &Option<Name>) -> Result<(), AllocE
     }
 }
 
-// Appends the message that no read of the point list covers an accounting register, with the Modbus
-// addresses to add.
+// Appends the message for operators that no read of the point list covers an accounting register (a
+// named energy counter), with the Modbus addresses to add.
 fn write_unread(
     text: &mut Vec<u8>,
     device: &Option<Name>,
@@ -104,8 +107,8 @@ fn write_unlisted(text: &mut Vec<u8>, device: &Option<Name>) -> Result<(), Alloc
     append_bytes(text, b"/list\n")
 }
 
-/// Appends a message that says what is missing in the store for a device and what to do. If memory
-/// runs out, only a part of the message was appended.
+/// Appends a message for operators that says what is missing in the store for a device and what to
+/// do. If memory runs out, only a part of the message was appended.
 pub fn write_lack(text: &mut Vec<u8>, lack: &DeviceLack) -> Result<(), AllocError>
     ensures { OnOk result (text.new.items ≡ sentences.with_lack lack.now text.old.items) }
 {
@@ -143,7 +146,7 @@ fn append_meaning(text: &mut Vec<u8>, before: &[u8], meaning: &Meaning) -> Resul
 }
 
 // Returns what is missing for the device, if that is why the program refused the device's event.
-// Returns `None` if a message should explain the refusal's number instead.
+// Returns `None` if a message for operators should explain the refusal's number instead.
 fn lack_by(event: &Event, why: Refusal) -> Option<Lack>
     ensures { result ≡ sentences.lack_by event.now why }
 {
@@ -154,8 +157,8 @@ fn lack_by(event: &Event, why: Refusal) -> Option<Lack>
     }
 }
 
-/// Appends a message that explains why the program refused a device's event, and what to do. If
-/// memory runs out, only a part of the message was appended.
+/// Appends a message for operators that explains why the program refused a device's event, and what
+/// to do. If memory runs out, only a part of the message was appended.
 pub fn append_refusal(
     text: &mut Vec<u8>,
     device: &Option<Name>,
@@ -182,8 +185,8 @@ pub fn append_refusal(
     }
 }
 
-/// Appends a message that explains why the program rejected a meter's reading, and what to do. If
-/// memory runs out, only a part of the message was appended.
+/// Appends a message for operators that explains why the program rejected a meter's reading, and
+/// what to do. If memory runs out, only a part of the message was appended.
 pub fn write_held(text: &mut Vec<u8>, meter: &Name, cause: Cause) -> Result<(), AllocError>
     ensures { sentences.PutsHeld meter.now cause text.old.items text.new.items result }
 {

@@ -5,7 +5,8 @@ ghost use Rattle.run_http.specs.Status.Monitor.Queues as queues;
 use crate::status::status::{append_bytes, write_number};
 use std::alloc::{AllocError, Global};
 
-/// The most bytes in the queue. A longer text is accepted if the queue is empty.
+/// The maximum number of bytes in the queue of log lines. A longer text is accepted if the queue is
+/// empty.
 pub const MOST_WAITING: usize = 65_536;
 
 /// A bounded queue of log lines. After the queue dropped a line because it was full, it drops and
@@ -13,7 +14,7 @@ pub const MOST_WAITING: usize = 65_536;
 /// reported.
 #[derive(Drop)]
 pub struct LineQueue {
-    /// The bytes that were added to the queue since it was last empty.
+    /// The bytes that were added to the queue of log lines since it was last empty.
     pub bytes: Vec<u8>,
     /// The number of bytes of `bytes` that were already written to the log.
     pub written: usize,
@@ -27,7 +28,7 @@ fn count_lines(text: &[u8]) -> u64
     text.iter().filter(|byte| **byte == b'\n').count() as u64
 }
 
-// Appends the line that says how many lines were dropped up to the time `at`.
+// Appends the log line that says how many log lines were dropped up to the time `at`.
 fn write_dropped(text: &mut Vec<u8>, at: u64, dropped: u64) -> Result<(), AllocError>
     ensures { OnOk result (text.new.items ≡ queues.with_dropped at dropped text.old.items) }
 {
@@ -89,7 +90,8 @@ impl LineQueue {
         self.dropped == 0 && (self.bytes.is_empty() || fits)
     }
 
-    // Adds log lines at the end of the queue, or drops and counts them.
+    // Adds log lines at the end of the queue. If room or memory does not suffice, drops and counts
+    // the lines.
     fn write_after(&mut self, lines: &[u8])
         ensures { queues.PutsAfter lines.now (queue_of self.old) (queue_of self.new) }
     {
@@ -127,14 +129,14 @@ impl LineQueue {
         }
     }
 
-    /// Returns the bytes of the queue that are still to be written.
+    /// Returns the bytes of the queue of log lines that are still to be written.
     pub fn waiting(&self) -> &[u8]
         ensures { result.now ≡ queues.waiting_in (queue_of self.now) }
     {
         self.bytes.get(self.written..).unwrap_or(&[])
     }
 
-    /// Records that `count` more bytes of the queue were written.
+    /// Records that `count` more bytes of the queue of log lines were written.
     pub fn advance(&mut self, count: usize)
         ensures bytes { self.new.bytes ≡ self.old.bytes }
         ensures written { self.new.written ≡ min (self.old.written + count) (2 ^ 64 - 1) }

@@ -111,8 +111,8 @@ fn append_notes(
 
 /// Appends the log lines of one event of a device.
 ///
-/// A connection that began or ended, a refusal, and each rejected reading have a line. A poll has
-/// no line. If memory runs out, only a part of the text was appended.
+/// A connection that begins or ends, a refused event, and each rejected reading give one log line.
+/// A poll gives no line. If memory runs out, only a part of the text was appended.
 pub fn write_lines(
     text: &mut Vec<u8>,
     at: u64,

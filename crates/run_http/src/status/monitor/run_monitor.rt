@@ -92,7 +92,8 @@ impl RunMonitor {
         self.counts.note_all(notes);
     }
 
-    // Updates the state of the device with this index after an event.
+    // Updates what `/status` reports of the device with index `place` after one of its events:
+    // whether it is connected, and the time of its latest accepted reading.
     fn follow(
         &mut self,
         place: usize,

@@ -14,11 +14,11 @@ pub struct Counts {
     pub silent: u64,
     pub malformed: u64,
     pub lost: u64,
-    /// The number of accepted readings.
+    /// The number of readings that were accepted since the counts began at 0.
     pub readings: u64,
     /// The number of rejected readings for each cause. Index 0 belongs to the cause with number 1.
     pub held: [u64; 8],
-    /// The number of refused events.
+    /// The number of events that the program refused.
     pub refusals: u64,
 }
 

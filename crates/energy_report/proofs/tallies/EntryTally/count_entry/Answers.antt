@@ -19,4 +19,6 @@ returns c = λ before is.
     (c.tallied-2.ensures ∙ rw (c.both-2.ensures, counts, c.is_reset.ensures) refl)
     (c.tallied-3.ensures ∙ rw (c.both-3.ensures, counts, c.is_rescale.ensures) refl)
     (c.tallied-4.ensures ∙ rw (c.both-4.ensures, inside, c.is_valid-2.ensures) refl)
+    (c.tallied-5.ensures ∙ rw (c.both-5.ensures, counts, c.is_opening.ensures) refl)
+    (c.tallied-6.ensures ∙ rw (c.both-6.ensures, counts, c.is_closing.ensures) refl)
     ∙ one_more zone range before e c.args.self.now is

@@ -4,7 +4,8 @@ use Rattle.office_core.specs.Events.{is_command}
 use Rattle.office_core.specs.Taking.{MayTake, Takes}
 use Rattle.office_core.proofs.office.Office.process_event.Goals as goal
 
--- Whether the program accepts a device event is decided without a query to the store.
+-- The program decides without a query to the store whether it accepts an event that is not a
+-- command (such as bytes from a device).
 pub returns-else-is_command-clause-takes : goal.returns-else-is_command-clause-takes
 returns-else-is_command-clause-takes g c = λ past may clean.
     let ledger = g.B.Books.ledger in

@@ -28,7 +28,7 @@ pub record Member : Type 0 where
   pub want : Want
 
 -- True if the member of the JSON object has the required type. A negative number also has the type
--- Natural, since another test rejects it.
+-- Natural (an integer that is not negative), since another test rejects it.
 abbrev pub is_of_kind : Want → List ℕ → Data → Bool
 is_of_kind Text name d = is_some (text name d)
 is_of_kind Whole name d = is_some (whole name d)
@@ -49,7 +49,7 @@ is_too_low Whole name d = false
 is_too_low Natural name d = is_below_zero (whole name d)
 is_too_low Optional name d = is_below_zero (whole name d)
 
--- True if all listed members of the JSON body have their required types.
+-- True if all members in the list `members` have their required types in the JSON body.
 abbrev pub have_kinds : List Member → Data → Bool
 have_kinds members d = list_all (λ m. is_of_kind m.want m.name d) members
 
@@ -58,14 +58,14 @@ have_kinds members d = list_all (λ m. is_of_kind m.want m.name d) members
 abbrev pub have_negative : List Member → Data → Bool
 have_negative members d = list_any (λ m. is_too_low m.want m.name d) members
 
--- The fault of a JSON body, from two flags: whether all members have their types, and whether a
--- member is negative. A wrong type takes precedence over a negative number.
+-- The fault of a JSON body, from two flags: whether all members have their required types, and
+-- whether a member is negative. A wrong type takes precedence over a negative number.
 abbrev pub fault_in : Bool → Bool → Option BodyFault
 fault_in kinds negative =
     if kinds then (if negative then Some Negative else None) else Some Malformed
 
--- True if `Ok` means that the JSON body has no fault and has the returned values, and an error is
--- the body's fault.
+-- True if the specification allows the result of parsing a JSON body. `Ok` requires a body without
+-- a fault, and the values of its members. An error must be the body's fault.
 abbrev pub Reads : {X : Type 0} → Option BodyFault → (X → Type 0) → Result X BodyFault → Type 0
 Reads fault IsIn (Ok x) = (fault ≡ None) × IsIn x
 Reads fault IsIn (Err e) = fault ≡ Some e

@@ -5,7 +5,7 @@ use Rattle.serde_json.specs.Find.{get}
 use Rattle.office_http.specs.declared.messages.commands.json.body.BodyFault.{BodyFault}
 use Rattle.office_http.specs.Messages.Commands.Json.Members.{Member, Text, Whole, Natural, Optional, fault_in, have_kinds, have_negative, is_below_zero, whole}
 
--- The fault of a JSON object that must have these members, or None if the object has no fault.
+-- The fault of a JSON object that must have the listed members, or None if the object has no fault.
 abbrev pub fault_of : List Member → Data → Option BodyFault
 fault_of members d = fault_in (have_kinds members d) (have_negative members d)
 
@@ -34,7 +34,8 @@ has_scale d =
     (is_some (whole (codes "fixed") d) && is_none (get (codes "scale_at") d))
     || (is_none (get (codes "fixed") d) && is_some (whole (codes "scale_at") d))
 
--- The fault of the scale in a body that adds an accounting register (a named energy counter).
+-- The fault of the power of ten in a JSON body that adds an accounting register (a named energy
+-- counter). The body must have either the integer `fixed` or the address `scale_at`, not negative.
 abbrev pub scale_fault : Data → Option BodyFault
 scale_fault d = fault_in (has_scale d) (is_below_zero (whole (codes "scale_at") d))
 

@@ -19,7 +19,7 @@ pub struct DeviceBody<'b> {
 /// The source of the scale exponent of an accounting register (a named energy counter).
 #[derive(Clone, Copy, PartialEq, Eq)]
 pub enum Scale {
-    /// The scale exponent is fixed, from the member `fixed`.
+    /// The scale exponent is the fixed number in the JSON member `fixed`.
     Fixed(i64),
     /// The scale exponent is read from the device, at the Modbus address in the member `scale_at`.
     At(u64),

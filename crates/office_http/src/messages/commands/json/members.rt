@@ -8,7 +8,7 @@ ghost use Rattle.office_http.specs.Messages.Commands.Json.Members.{is_below_zero
 use crate::messages::commands::json::body::BodyFault;
 use serde_json::Value;
 
-// Returns whether the JSON object has a member with this name, of any type.
+// Returns whether the JSON object has a member with the given name, of any type.
 pub(crate) fn has_member(body: &Value, name: &str) -> bool
     ensures { result ≡ is_some (get name.now (view body.now)) }
 {
@@ -26,7 +26,8 @@ pub(crate) fn text<'b>(body: &'b Value, name: &str) -> Result<&'b str, BodyFault
     }
 }
 
-// Returns the integer in a member, or `Malformed` if the member is missing or is no integer.
+// Returns the integer in the JSON member `name` of a request's body, or `Malformed` if the member
+// is missing or is no integer.
 pub(crate) fn whole(body: &Value, name: &str) -> Result<i64, BodyFault>
     ensures found { IfOk result (λ n. whole name.now (view body.now) ≡ Some n) }
     ensures none { IfErr result (λ e. whole name.now (view body.now) ≡ None) }

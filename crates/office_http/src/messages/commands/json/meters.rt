@@ -20,7 +20,7 @@ pub struct InstallBody<'b> {
 }
 
 /// The values in the JSON body that replaces a meter: the old meter's last reading, the rollovers
-/// of its counter since the reading before, and the new meter.
+/// of its counter since its previous entry, and the new meter.
 #[derive(Clone, Copy)]
 pub struct ExchangeBody<'b> {
     pub last: u64,

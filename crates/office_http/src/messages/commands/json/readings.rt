@@ -17,8 +17,8 @@ pub struct ManualBody {
     pub at: Option<u64>,
 }
 
-/// The last reading of a meter that is closed, and the rollovers of its counter since the reading
-/// before.
+/// The last reading of a meter that is closed, and the rollovers of its counter since the meter's
+/// previous entry.
 #[derive(Clone, Copy)]
 pub struct CloseBody {
     pub raw: u64,

@@ -14,7 +14,7 @@ pub loop-difference-preserved : goal.loop-difference-preserved
 loop-difference-preserved c = record {
   first = kept_more c.args.meter.now c.args.found.now c.loop-difference.difference-index _ c.in_ok-finding.finding
       c.args.self.now c.loop-difference.self c.push.new.self (omega arith) c.loop-difference.invariant.first
-      c.in_ok-finding.ensures.meter c.in_ok-finding.ensures.difference c.in_ok-push.ensures.kept;
+      c.in_ok-finding.ensures.meter (c.in_ok-finding.ensures.difference ∙ c.difference-item.is) c.in_ok-push.ensures.kept;
   more = more_counted c.args.self.now.more c.loop-difference.self.more c.push.new.self.more (length c.args.self.now.first.items)
       (length c.loop-difference.self.first.items) c.loop-difference.difference-index c.loop-difference.invariant.more
       (kept_length c.args.meter.now c.args.found.now c.loop-difference.difference-index c.args.self.now c.loop-difference.self (omega arith)

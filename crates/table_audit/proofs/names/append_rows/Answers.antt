@@ -1,0 +1,11 @@
+use Rattle.std.proofs.Common.{◌+◌, refl, arith}
+use Rattle.table_audit.proofs.NamesFound.{unnamed_more, unnamed_done}
+use Rattle.table_audit.proofs.names.append_rows.Goals as goal
+
+pub loop-index-preserved : goal.loop-index-preserved
+loop-index-preserved c =
+    unnamed_more c.args.table c.args.rows.now c.loop-index.index (c.loop-index.index + 1) c.index-rows-index.result c.loop-index.found.items c.append_row.new.found.items _
+    (omega arith) c.index-rows-index.is refl c.loop-index.invariant c.in_ok-append_row.ensures
+
+pub returns : goal.returns
+returns c = unnamed_done c.args.table c.args.rows.now c.loop-index.index c.loop-index.found.items _ (omega arith) c.loop-index.invariant
