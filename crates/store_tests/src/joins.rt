@@ -47,7 +47,7 @@ static TOTALS: [(u64, &[u8]); 2] = [
     (3_999_999_999_999_800_000, b"joined: fine\n"),
     (
         MAX_TOTAL,
-        b"meter m1 has more energy in all files up to new.db than a meter may have\n1 differences between files\n",
+        b"meter m1 has more energy in all files up to new.db than a meter may have\n1 difference between files\n",
     ),
 ];
 
