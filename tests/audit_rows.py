@@ -148,24 +148,27 @@ def differences_of(books, next_place, installation):
         return [astray.format("installations")]
     ask = lambda what: books.execute(f"SELECT {what}", (name,)).fetchall()
     told = [] if place == next_place else [f"place has {place}, the next is {next_place}"]
-    ranges, voids = ask('"range" FROM ranges WHERE meter = ?'), ask("place FROM voids WHERE meter = ? ORDER BY place")
+    ranges, voids = ask('"range" FROM ranges WHERE meter = ?'), ask("place, moment FROM voids WHERE meter = ? ORDER BY place")
     entries = ask('place, kind, moment, raw, rolls, "after", sf FROM entries WHERE meter = ? ORDER BY place')
     intervals = ask("start, mwh FROM intervals WHERE meter = ? ORDER BY start")
     for table, are_fine in (
         ("ranges", len(ranges) == 1 and within(ranges, (65536, 2**32))),
-        ("voids", within(voids, (1, GREATEST_PLACE))),
+        ("voids", within(voids, (1, GREATEST_PLACE), (0, LATEST))),
         ("entries", within(entries, (1, GREATEST_PLACE), (1, 6), (0, LATEST), (0, SHOWN), (0, 255), (0, SHOWN), (-3, 3))),
         ("intervals", within(intervals, (0, LATEST), (0, MOST_ENERGY))),
     ):
         if not are_fine:
             return [*told, astray.format(table)]
-    named, ((range_,),) = {it for it, in voids}, ranges
+    named, ((range_,),) = {it for it, _ in voids}, ranges
     first, *later = entries or [(0,) * 7]
     if first[:2] != (1, OPENING) or first[4:6] != (0, 0) or 1 in named or first[3] >= range_:
         return [*told, "is opened by no lawful entry"]
     meter = Meter(range_, ceiling, first[2], first[3], first[6])
     if cant := [f"entry {row[0]} can't come there: {fault}" for row in later if (fault := meter.take(*row, row[0] in named))]:
         return told + cant
+    made = {row[0]: row[2] for row in entries}
+    early = [f"void {it} at {moment(at)} is before its entry at {moment(made[it])}" for it, at in voids if at < made.get(it, 0)]
+    told += early[:1]
     has, wanted = dict(intervals), meter.rows
     for start in sorted({*has, *wanted}):
         if has.get(start) != wanted.get(start):
@@ -208,6 +211,30 @@ def unnamed_of(books):
     for table, order, thing, pattern in (("devices", "place", "device", NAME), ("points", "device, place", "point", POINT), ("registers", "place", "register", NAME)):
         names = books.execute(f"SELECT name FROM {table} ORDER BY {order}").fetchall()
         told += [f"row {number} of {table} names no {thing}" for number, (name,) in enumerate(names, 1) if not pattern.fullmatch(name)]
+    return told
+
+
+def is_device(place, _name, unit, timeout, window):
+    """Returns whether the numbers of a device are in their ranges."""
+    return within([(place, unit, timeout, window)], (1, GREATEST_PLACE), (0, 255), (1, 60), (1, 16))
+
+
+def is_register(place, _name, device, function, address, kind, scale):
+    """Returns whether the values of an accounting register are in their ranges, and one read of at
+    most 125 registers covers the counter and its scale."""
+    if not NAME.fullmatch(device) or not within([(place, function, address, kind)], (1, GREATEST_PLACE), (3, 4), (0, 65534), (0, 1)):
+        return False
+    if kind == 0:
+        return -3 <= scale <= 3
+    return 0 <= scale <= 65535 and max(address + 2, scale + 1) - min(address, scale) <= 125
+
+
+def unreadable_of(books):
+    """Returns the lines about devices and registers with a valid name, but another value out of its range."""
+    told = []
+    for table, is_fine in (("devices", is_device), ("registers", is_register)):
+        rows = books.execute(f"SELECT * FROM {table} ORDER BY place").fetchall()
+        told += [f"{table} row {number} has a value out of its range" for number, row in enumerate(rows, 1) if NAME.fullmatch(row[1]) and not is_fine(*row)]
     return told
 
 
@@ -273,7 +300,7 @@ def audit_of(books):
     told = []
     for place, row in enumerate(rows, 1):
         told += [f"meter {row[1]} {it}" for it in differences_of(books, place, row)] if NAME.fullmatch(row[1]) else [f"row {place} of installations names no meter"]
-    told += overlaps_of(books, rows) + unnamed_of(books)
+    told += overlaps_of(books, rows) + unnamed_of(books) + unreadable_of(books)
     told += poll_differences(books, len(told))
     if told:
         return 1, [*told[:100], *([f"and {len(told) - 100} more"] if len(told) > 100 else []), counted(len(told), "difference", "differences")]

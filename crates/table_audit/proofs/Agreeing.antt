@@ -15,6 +15,7 @@ use Rattle.meter_journal.specs.Audit.Passing.{MayBeChecked, passed}
 use Rattle.meter_journal.specs.Audit.Going.{HasGone, GoesOver, Agrees, FinishedIsFine, RefusedIsNotFine}
 use Rattle.meter_journal.proofs.AuditLemmas.Apart.{same_head, reported_more}
 use Rattle.store_tables.specs.declared.meters.rows.InstallationRow.{InstallationRow}
+use Rattle.table_audit.specs.declared.rows.VoidRow.{VoidRow}
 use Rattle.table_audit.specs.Lawful.{last_shown, IsOpenedBy, tables_from, IsLawful, RestAgrees}
 
 -- Lemmas on splitting the list of a meter's entry rows at an index.
@@ -66,7 +67,7 @@ shows_itself row last is = let same : last_shown row ≡ last = ap last_shown is
 
 -- If two meters have the same opening row (first entry), counter range and ceiling (greatest
 -- power), then the two meters are equal.
-same_meter : (range ceiling : ℕ) (row : TableRow) (m n : Installed) → IsOpenedBy range ceiling row m → IsOpenedBy range ceiling row n → m ≡ n
+pub same_meter : (range ceiling : ℕ) (row : TableRow) (m n : Installed) → IsOpenedBy range ceiling row m → IsOpenedBy range ceiling row n → m ≡ n
 same_meter range ceiling row m n h g =
     let opening : m.opening ≡ n.opening = ap last_shown (sym h.opening_is ∙ g.opening_is) in
     ap (λ r. meter_with r m.ceiling m.opening) (h.range_is ∙ sym g.range_is)
@@ -81,12 +82,12 @@ opening_last entries opening later last first is =
 
 -- States that a meter's rows are those that the program would write for its entries. The entries
 -- are the meter's opening (the first entry) and the entries `later`.
-record HasOpened (range : ℕ) (row : InstallationRow) (voids : List ℕ) (entries : List TableRow) (shares : List Share) (meter : Installed)
+record HasOpened (range : ℕ) (row : InstallationRow) (voids : List VoidRow) (entries : List TableRow) (shares : List Share) (meter : Installed)
     (later : List TableRow) : Type 0 where
   fine : AreFine meter (tables_from entries shares row)
   reported : reverse entries ≡ reverse later ++ opening_row meter.opening ∷ []
 
-has_opened : (range : ℕ) (row : InstallationRow) (voids : List ℕ) (entries : List TableRow) (shares : List Share) (meter : Installed)
+has_opened : (range : ℕ) (row : InstallationRow) (voids : List VoidRow) (entries : List TableRow) (shares : List Share) (meter : Installed)
     (opening : TableRow) (later : List TableRow) → entries ≡ opening ∷ later → IsOpenedBy range row.ceiling opening meter
     → IsLawful range row voids entries shares → HasOpened range row voids entries shares meter later
 has_opened range row voids entries shares meter opening later first opened lawful =
@@ -99,7 +100,7 @@ has_opened range row voids entries shares meter opening later first opened lawfu
       reported = opening_last entries opening later meter.opening first opened.opening_is;
     }
 
-pub not_opened : (range : ℕ) (row : InstallationRow) (voids : List ℕ) (entries : List TableRow) (shares : List Share)
+pub not_opened : (range : ℕ) (row : InstallationRow) (voids : List VoidRow) (entries : List TableRow) (shares : List Share)
     (opening : TableRow) (later : List TableRow) → entries ≡ opening ∷ later
     → ((meter : Installed) → MayBeChecked meter → IsOpenedBy range row.ceiling opening meter → ⊥)
     → IsLawful range row voids entries shares → ⊥
@@ -108,14 +109,14 @@ not_opened range row voids entries shares opening later first none lawful =
     let head : lawful.opening ≡ opening = same_head lawful.opening opening lawful.later later both in
     none lawful.meter lawful.may (subst (λ (r : TableRow). IsOpenedBy range row.ceiling r lawful.meter) head lawful.opened)
 
-pub no_entry : (range : ℕ) (row : InstallationRow) (voids : List ℕ) (entries : List TableRow) (shares : List Share)
+pub no_entry : (range : ℕ) (row : InstallationRow) (voids : List VoidRow) (entries : List TableRow) (shares : List Share)
     → entries ≡ [] → IsLawful range row voids entries shares → ⊥
 no_entry range row voids entries shares none lawful =
     let both : [] ≡ lawful.opening ∷ lawful.later = sym none ∙ lawful.first in absurd (cc)
 
 -- Suppose that no history that the rules for meter entries accept has a meter's entries after the
 -- opening (the first entry). Then the rules do not accept the meter's rows either.
-pub not_reported : (range : ℕ) (row : InstallationRow) (voids : List ℕ) (entries : List TableRow) (shares : List Share) (meter : Installed)
+pub not_reported : (range : ℕ) (row : InstallationRow) (voids : List VoidRow) (entries : List TableRow) (shares : List Share) (meter : Installed)
     (opening : TableRow) (later : List TableRow) → entries ≡ opening ∷ later → IsOpenedBy range row.ceiling opening meter
     → (AreReported meter (reverse later) → ⊥) → IsLawful range row voids entries shares → ⊥
 not_reported range row voids entries shares meter opening later first opened none lawful =
@@ -132,10 +133,10 @@ not_reported range row voids entries shares meter opening later first opened non
 -- Lemmas that a meter's rows agree with the result of checking all its entries if and only if they
 -- follow from a history that the rules for meter entries accept.
 
-pub rest_is_lawful : FinishedIsFine → (range : ℕ) (row : InstallationRow) (voids : List ℕ) (entries : List TableRow) (shares : List Share)
+pub rest_is_lawful : FinishedIsFine → (range : ℕ) (row : InstallationRow) (voids : List VoidRow) (entries : List TableRow) (shares : List Share)
     (meter : Installed) (opening : TableRow) (later : List TableRow) (progress : Progress)
     → entries ≡ opening ∷ later → MayBeChecked meter → IsOpenedBy range row.ceiling opening meter
-    → HasGone meter (reverse later) [] progress → RestAgrees progress row voids (length entries) shares
+    → HasGone meter (reverse later) [] progress → RestAgrees progress row voids entries shares
     → IsLawful range row voids entries shares
 rest_is_lawful law range row voids entries shares meter opening later progress first may opened gone agrees =
     let tables : Tables = tables_from entries shares row in
@@ -155,19 +156,21 @@ rest_is_lawful law range row voids entries shares meter opening later progress f
         ended = agrees.stands.ended;
       });
       named = agrees.named;
+      timely = agrees.timely;
     }
 
-pub lawful_rest : FinishedIsFine → (range : ℕ) (row : InstallationRow) (voids : List ℕ) (entries : List TableRow) (shares : List Share)
+pub lawful_rest : FinishedIsFine → (range : ℕ) (row : InstallationRow) (voids : List VoidRow) (entries : List TableRow) (shares : List Share)
     (meter : Installed) (opening : TableRow) (later : List TableRow) (progress : Progress)
     → entries ≡ opening ∷ later → IsOpenedBy range row.ceiling opening meter
     → HasGone meter (reverse later) [] progress → IsLawful range row voids entries shares
-    → RestAgrees progress row voids (length entries) shares
+    → RestAgrees progress row voids entries shares
 lawful_rest law range row voids entries shares meter opening later progress first opened gone lawful =
     let tables : Tables = tables_from entries shares row in
     let h = has_opened range row voids entries shares meter opening later first opened lawful in
     let agrees : Agrees tables [] progress = (law meter (reverse later) [] progress tables gone h.reported).0 h.fine in
     record {
       named = lawful.named;
+      timely = lawful.timely;
       intervals = agrees.intervals;
       stands = record { last = agrees.last; total = agrees.total; ended = agrees.ended };
     }

@@ -66,12 +66,12 @@ entry_rows meter old new content xs rows has are h =
     old new entry_text.entry_rows entry_text.entry_rows_names content xs rows (tree_at books_schema.tables 5 entries_table refl) has are entry_text.entry_rows_is entry_text.entry_rows_unlisted entry_text.entry_rows_plain h
 
 pub void_rows : (meter : List ℕ) (old new : State) (content : Content) (xs rows : List Row) → AreTables old.now content → HasRows entry_tree.voids itself xs content
-    → Shown entry_text.void_rows (Text meter ∷ []) old new rows → Shows (is_of meter) InOrder void_shown xs rows
+    → Shown text.void_rows (Text meter ∷ []) old new rows → Shows (is_of meter) InOrder void_shown xs rows
 void_rows meter old new content xs rows has are h =
-    selects entry_tree.voids entry_text.void_rows_tests entry_text.void_rows_project ((col 1 2, rising) ∷ []) no_limit (Text meter ∷ []) itself (is_of meter) void_shown InOrder
+    selects entry_tree.voids text.of_meter text.void_project ((col 1 2, rising) ∷ []) no_limit (Text meter ∷ []) itself (is_of meter) void_shown InOrder
     (λ n x. meter_test x meter) (λ n x. refl)
     (λ m n x y le. sym (ap is_gt (then-Equal (value_cmp (column x 1) (column y 1)))) ∙ le)
-    old new entry_text.void_rows entry_text.void_rows_names content xs rows (tree_at books_schema.tables 12 voids_table refl) has are entry_text.void_rows_is entry_text.void_rows_unlisted entry_text.void_rows_plain h
+    old new text.void_rows text.void_names content xs rows (tree_at books_schema.tables 12 voids_table refl) has are text.void_rows_is text.void_rows_unlisted text.void_rows_plain h
 
 pub installation_rows : (old new : State) (content : Content) (xs rows : List Row) → AreTables old.now content → HasRows meter_tree.installations itself xs content
     → Shown text.installation_rows [] old new rows → Shows every InPlace installation_shown xs rows

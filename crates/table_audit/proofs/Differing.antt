@@ -4,6 +4,7 @@ use Rattle.std.proofs.Common.{◌≡◌, ◌+◌, ◌-◌, ◌<◌, ◌≤◌, �
 use Rattle.std.specs.List.{list_any, list_all}
 use Rattle.std.proofs.Math.Seq.{drop-cons}
 use Rattle.std.proofs.Math.ListN.{drop_of_length-le}
+use Rattle.std.proofs.lemmas.Bool.{and_parts, and_from}
 use Rattle.std.proofs.lemmas.Bool.Decides.{nat_tests}
 use Rattle.sqlite.specs.Order.{Row}
 use Rattle.store_tables.specs.declared.faults.RowFault.{RowFault}
@@ -67,13 +68,6 @@ any_at test (x ∷ xs) (suc i) d inside h = ap (λ b. test x || b) (any_at test 
     or_true : (b : Bool) → b || true ≡ true
     or_true true = refl
     or_true false = refl
-
-and_both : (a b : Bool) → a && b ≡ true → (a ≡ true) × (b ≡ true)
-and_both true b h = (refl, h)
-and_both false b h = absurd (let f : false ≡ true = h in cc)
-
-both_and : (a b : Bool) → a ≡ true → b ≡ true → a && b ≡ true
-both_and a b h g = ap (λ x. x && b) h ∙ g
 
 if_none : {X : Type 0} (b : Bool) (x : X) (xs : List X) → (if b then x ∷ xs else []) ≡ [] → b ≡ false
 if_none true x xs none = absurd (let g : x ∷ xs ≡ [] = none in cc)
@@ -151,14 +145,14 @@ record IsNext (next last n : ℕ) : Type 0 where
 is_next : (next last n : ℕ) → reported_at next last n ≡ [] → IsNext next last n
 is_next next last n none =
     let two = else_none (rises next last n) (gap next n) (Poll n OutOfOrder) [] none in
-    let tests = and_both (nat_le next n) (nat_le n last) two.0 in
+    let tests = and_parts (nat_le next n) (nat_le n last) two.0 in
     let low = le_of next n tests.0 in
     let closed = gap_closed next n two.1 in
     record { is = omega (arith, low, closed); inside = le_of n last tests.1 }
 
 rises_so : (next last n : ℕ) → IsNext next last n → rises next last n ≡ true
 rises_so next last n one =
-    let is = one.is in both_and (nat_le next n) (nat_le n last) (le_is next n (omega (arith, is))) (le_is n last one.inside)
+    let is = one.is in and_from (nat_le next n) (nat_le n last) (le_is next n (omega (arith, is))) (le_is n last one.inside)
 
 next_none : (next last n : ℕ) → IsNext next last n → reported_at next last n ≡ []
 next_none next last n one =
@@ -189,8 +183,8 @@ order_none next last (row ∷ rows) polls h none =
     let inside = it.inside in
     let later : order_of (next + 1) last rows ≡ [] = subst (λ (m : ℕ). order_of m last rows ≡ []) (then_next next last n it) none_at.1 in
     sym (ap (are_numbered next last) (ok_is two.2))
-    ∙ both_and ((n == next) && nat_le next last) (are_numbered (next + 1) last two.0)
-    (both_and (n == next) (nat_le next last) (eq_is n next is) (le_is next last (omega (arith, is, inside))))
+    ∙ and_from ((n == next) && nat_le next last) (are_numbered (next + 1) last two.0)
+    (and_from (n == next) (nat_le next last) (eq_is n next is) (le_is next last (omega (arith, is, inside))))
     (order_none (next + 1) last rows two.0 two.1 later)
 
 none_order : (next last : ℕ) (rows : List Row) (polls : List PollRow) → all_in poll_in rows ≡ Ok polls → are_numbered next last polls ≡ true → order_of next last rows ≡ []
@@ -200,8 +194,8 @@ none_order next last (row ∷ rows) polls h all =
     let one = then_read (poll_in row) _ polls h in
     let two = then_read (all_in poll_in rows) _ polls one.2 in
     let n = one.0.number in
-    let second = and_both ((n == next) && nat_le next last) (are_numbered (next + 1) last two.0) (ap (are_numbered next last) (ok_is two.2) ∙ all) in
-    let first = and_both (n == next) (nat_le next last) second.0 in
+    let second = and_parts ((n == next) && nat_le next last) (are_numbered (next + 1) last two.0) (ap (are_numbered next last) (ok_is two.2) ∙ all) in
+    let first = and_parts (n == next) (nat_le next last) second.0 in
     let is = eq_of n next first.0 in
     let low = le_of next last first.1 in
     let it : IsNext next last n = record { is = is; inside = omega (arith, is, low) } in
@@ -256,7 +250,7 @@ fallen_none since (row ∷ rows) polls h none =
     let low = not_lt poll.started since (if_none (nat_lt poll.started since) (Poll poll.number StartedBefore) [] both.0) in
     let later : fallen_from poll.started rows ≡ [] = subst (λ (n : ℕ). fallen_from n rows ≡ []) (max_is since poll.started low) both.1 in
     sym (ap (starts_rise since) (ok_is two.2))
-    ∙ both_and (nat_le since poll.started) (starts_rise poll.started two.0) (le_is since poll.started low) (fallen_none poll.started rows two.0 two.1 later)
+    ∙ and_from (nat_le since poll.started) (starts_rise poll.started two.0) (le_is since poll.started low) (fallen_none poll.started rows two.0 two.1 later)
 
 none_fallen : (since : ℕ) (rows : List Row) (polls : List PollRow) → all_in poll_in rows ≡ Ok polls → starts_rise since polls ≡ true → fallen_from since rows ≡ []
 none_fallen since [] polls h all = refl
@@ -264,7 +258,7 @@ none_fallen since (row ∷ rows) polls h all =
     let one = then_read (poll_in row) _ polls h in
     let two = then_read (all_in poll_in rows) _ polls one.2 in
     let poll = one.0 in
-    let tests = and_both (nat_le since poll.started) (starts_rise poll.started two.0) (ap (starts_rise since) (ok_is two.2) ∙ all) in
+    let tests = and_parts (nat_le since poll.started) (starts_rise poll.started two.0) (ap (starts_rise since) (ok_is two.2) ∙ all) in
     let low = le_of since poll.started tests.0 in
     ap (λ (q : Result PollRow RowFault). fallen_by since q ++ fallen_from (later_start since q) rows) one.1
     ∙ ap (λ (b : Bool). (let ds : List Difference = if b then Poll poll.number StartedBefore ∷ [] else [] in ds) ++ fallen_from (max since poll.started) rows) (lt_not poll.started since low)
@@ -293,7 +287,7 @@ module _ (poll_rows : List Row) (polls : List PollRow) (polls_read : all_in poll
       let here : early_by poll_rows (Ok one.0) ≡ [] = subst (λ (q : Result OutcomeRow RowFault). early_by poll_rows q ≡ []) one.1 none_at.0 in
       let any = else_none (list_any (began one.0) poll_rows) [] (Poll one.0.poll EndedBefore) [] here in
       sym (ap (list_all (has_begun polls)) (ok_is two.2))
-      ∙ both_and (has_begun polls one.0) (list_all (has_begun polls) two.0) (sym (same_begun one.0 poll_rows polls polls_read) ∙ any.0)
+      ∙ and_from (has_begun polls one.0) (list_all (has_begun polls) two.0) (sym (same_begun one.0 poll_rows polls polls_read) ∙ any.0)
       (early_none rows two.0 two.1 none_at.1)
 
   none_early : (rows : List Row) (outcomes : List OutcomeRow) → all_in outcome_in rows ≡ Ok outcomes → list_all (has_begun polls) outcomes ≡ true
@@ -302,7 +296,7 @@ module _ (poll_rows : List Row) (polls : List PollRow) (polls_read : all_in poll
   none_early (row ∷ rows) outcomes h all =
       let one = then_read (outcome_in row) _ outcomes h in
       let two = then_read (all_in outcome_in rows) _ outcomes one.2 in
-      let both = and_both (has_begun polls one.0) (list_all (has_begun polls) two.0) (ap (list_all (has_begun polls)) (ok_is two.2) ∙ all) in
+      let both = and_parts (has_begun polls one.0) (list_all (has_begun polls) two.0) (ap (list_all (has_begun polls)) (ok_is two.2) ∙ all) in
       ap (λ (q : Result OutcomeRow RowFault). early_by poll_rows q ++ each_of (early poll_rows) rows) one.1
       ∙ ap (λ (b : Bool). (let ds : List Difference = if b then [] else Poll one.0.poll EndedBefore ∷ [] in ds) ++ each_of (early poll_rows) rows)
       (same_begun one.0 poll_rows polls polls_read ∙ both.0)

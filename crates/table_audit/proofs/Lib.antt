@@ -1,5 +1,6 @@
 pub mod ReadRows
 pub mod Agreeing
+pub mod BookedShares
 pub mod Looking
 pub mod SqlTexts
 pub mod Asks
@@ -18,6 +19,7 @@ pub mod NameTexts
 pub mod NameAsks
 pub mod NamesFound
 pub mod SpellNames
+pub mod ZoneFound
 pub mod SpansFound
 pub mod AuditedRows
 mod Moments

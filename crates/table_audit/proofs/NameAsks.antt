@@ -1,4 +1,4 @@
--- Lemmas on the result rows of the audit's queries for the names of devices, points and registers.
+-- Lemmas on the result rows of the audit's queries for devices, points and registers.
 use Rattle.std.proofs.Common.{◌≡◌, ℕ, List, [], ◌∷◌, refl, sym, ap, ◌∙◌}
 use Rattle.std.specs.Ordering.{is_gt}
 use Rattle.sqlite.specs.Order.{Row, column}
@@ -15,27 +15,27 @@ use Rattle.store_tables.proofs.Frames.{tree_at}
 use Rattle.store_tables.proofs.Scans.{rising, no_limit}
 use Rattle.store_tables.proofs.Selects.{selects}
 use Rattle.table_audit.specs.Looking.{itself}
-use Rattle.table_audit.specs.Names.{name_shown, point_name_shown}
+use Rattle.table_audit.specs.Names.{device_shown, point_shown, register_shown}
 use Rattle.table_audit.specs.Showing.{InPlace}
 use Rattle.table_audit.proofs.NameTexts as text
 
 pub device_rows : (old new : State) (content : Content) (xs rows : List Row) → AreTables old.now content → HasRows device_tree.devices itself xs content
-    → Shown text.device_rows [] old new rows → Shows every InPlace name_shown xs rows
+    → Shown text.device_rows [] old new rows → Shows every InPlace device_shown xs rows
 device_rows old new content xs rows has are h =
-    selects device_tree.devices [] text.device_project ((col 1 0, rising) ∷ []) no_limit [] itself every name_shown InPlace
+    selects device_tree.devices [] text.device_project ((col 1 0, rising) ∷ []) no_limit [] itself every device_shown InPlace
     (λ n x. refl) (λ n x. refl) (λ m n x y le. sym (ap is_gt (then-Equal (value_cmp (column x 0) (column y 0)))) ∙ le)
-    old new text.device_rows text.names content xs rows (tree_at books_schema.tables 1 devices_table refl) has are text.device_rows_is text.device_rows_unlisted text.device_rows_plain h
+    old new text.device_rows text.device_names content xs rows (tree_at books_schema.tables 1 devices_table refl) has are text.device_rows_is text.device_rows_unlisted text.device_rows_plain h
 
 pub point_rows : (old new : State) (content : Content) (xs rows : List Row) → AreTables old.now content → HasRows device_tree.points itself xs content
-    → Shown text.point_rows [] old new rows → Shows every AnyOrder point_name_shown xs rows
+    → Shown text.point_rows [] old new rows → Shows every AnyOrder point_shown xs rows
 point_rows old new content xs rows has are h =
-    selects device_tree.points [] text.point_project ((col 1 1, rising) ∷ (col 1 2, rising) ∷ []) no_limit [] itself every point_name_shown AnyOrder
+    selects device_tree.points [] text.point_project ((col 1 1, rising) ∷ (col 1 2, rising) ∷ []) no_limit [] itself every point_shown AnyOrder
     (λ n x. refl) (λ n x. refl) (λ m n x y le. tt)
-    old new text.point_rows text.names content xs rows (tree_at books_schema.tables 2 points_table refl) has are text.point_rows_is text.point_rows_unlisted text.point_rows_plain h
+    old new text.point_rows text.point_names content xs rows (tree_at books_schema.tables 2 points_table refl) has are text.point_rows_is text.point_rows_unlisted text.point_rows_plain h
 
 pub register_rows : (old new : State) (content : Content) (xs rows : List Row) → AreTables old.now content → HasRows device_tree.registers itself xs content
-    → Shown text.register_rows [] old new rows → Shows every InPlace name_shown xs rows
+    → Shown text.register_rows [] old new rows → Shows every InPlace register_shown xs rows
 register_rows old new content xs rows has are h =
-    selects device_tree.registers [] text.register_project ((col 1 0, rising) ∷ []) no_limit [] itself every name_shown InPlace
+    selects device_tree.registers [] text.register_project ((col 1 0, rising) ∷ []) no_limit [] itself every register_shown InPlace
     (λ n x. refl) (λ n x. refl) (λ m n x y le. sym (ap is_gt (then-Equal (value_cmp (column x 0) (column y 0)))) ∙ le)
-    old new text.register_rows text.names content xs rows (tree_at books_schema.tables 3 registers_table refl) has are text.register_rows_is text.register_rows_unlisted text.register_rows_plain h
+    old new text.register_rows text.register_names content xs rows (tree_at books_schema.tables 3 registers_table refl) has are text.register_rows_is text.register_rows_unlisted text.register_rows_plain h

@@ -1,4 +1,4 @@
--- Lemmas on the meaning of the audit's SQL queries for the names of devices, points and registers.
+-- Lemmas on the meaning of the audit's SQL queries for devices, points and registers.
 use Rattle.std.proofs.Common.{◌≡◌, List, [], ◌∷◌, codes, ℕ, false, refl}
 use Rattle.sqlite.specs.Term.{Term, col}
 use Rattle.sqlite.specs.Command.TheVariants.{Select}
@@ -9,18 +9,18 @@ use Rattle.store_tables.specs.Schema.{books_schema}
 use Rattle.store_tables.proofs.Failures.{Suits, suits_scan}
 use Rattle.store_tables.proofs.Scans.{scan, no_limit, rising}
 
-abbrev pub names : List (List ℕ)
-names = codes "name" ∷ []
-
--- Lemmas on the meaning of the SQL query for the names of all devices.
+-- Lemmas on the meaning of the SQL query for all devices.
 
 abbrev pub device_rows : List ℕ
-device_rows = codes "SELECT name FROM devices ORDER BY place"
+device_rows = codes "SELECT place, name, unit, timeout, \"window\" FROM devices ORDER BY place"
 
 abbrev pub device_project : List Term
-device_project = col 1 2 ∷ []
+device_project = col 1 0 ∷ col 1 2 ∷ col 1 3 ∷ col 1 4 ∷ col 1 5 ∷ []
 
-pub device_rows_is : command_of (understood books_schema device_rows) ≡ Select (record { lets = []; body = scan 1 [] device_project ((col 1 0, rising) ∷ []) no_limit }) names
+abbrev pub device_names : List (List ℕ)
+device_names = codes "place" ∷ codes "name" ∷ codes "unit" ∷ codes "timeout" ∷ codes "window" ∷ []
+
+pub device_rows_is : command_of (understood books_schema device_rows) ≡ Select (record { lets = []; body = scan 1 [] device_project ((col 1 0, rising) ∷ []) no_limit }) device_names
 unfolding understood everything
 device_rows_is = refl
 
@@ -34,17 +34,20 @@ device_rows_plain = (refl, refl)
 
 pub device_rows_suits : Suits books_schema device_rows []
 unfolding understood everything
-device_rows_suits = suits_scan 1 [] device_project ((col 1 0, rising) ∷ []) no_limit device_rows names [] (refl, refl, refl) device_rows_plain device_rows_unlisted device_rows_is refl
+device_rows_suits = suits_scan 1 [] device_project ((col 1 0, rising) ∷ []) no_limit device_rows device_names [] (refl, refl, refl) device_rows_plain device_rows_unlisted device_rows_is refl
 
 -- Lemmas on the meaning of the SQL query for the names of all points.
 
 abbrev pub point_rows : List ℕ
-point_rows = codes "SELECT name FROM points ORDER BY device, place"
+point_rows = codes "SELECT place, name FROM points ORDER BY device, place"
 
 abbrev pub point_project : List Term
-point_project = col 1 3 ∷ []
+point_project = col 1 2 ∷ col 1 3 ∷ []
 
-pub point_rows_is : command_of (understood books_schema point_rows) ≡ Select (record { lets = []; body = scan 3 [] point_project ((col 1 1, rising) ∷ (col 1 2, rising) ∷ []) no_limit }) names
+abbrev pub point_names : List (List ℕ)
+point_names = codes "place" ∷ codes "name" ∷ []
+
+pub point_rows_is : command_of (understood books_schema point_rows) ≡ Select (record { lets = []; body = scan 3 [] point_project ((col 1 1, rising) ∷ (col 1 2, rising) ∷ []) no_limit }) point_names
 unfolding understood everything
 point_rows_is = refl
 
@@ -58,17 +61,20 @@ point_rows_plain = (refl, refl)
 
 pub point_rows_suits : Suits books_schema point_rows []
 unfolding understood everything
-point_rows_suits = suits_scan 3 [] point_project ((col 1 1, rising) ∷ (col 1 2, rising) ∷ []) no_limit point_rows names [] (refl, refl, refl) point_rows_plain point_rows_unlisted point_rows_is refl
+point_rows_suits = suits_scan 3 [] point_project ((col 1 1, rising) ∷ (col 1 2, rising) ∷ []) no_limit point_rows point_names [] (refl, refl, refl) point_rows_plain point_rows_unlisted point_rows_is refl
 
--- Lemmas on the meaning of the SQL query for the names of all registers.
+-- Lemmas on the meaning of the SQL query for all registers.
 
 abbrev pub register_rows : List ℕ
-register_rows = codes "SELECT name FROM registers ORDER BY place"
+register_rows = codes "SELECT place, name, device, function, address, scale_kind, scale FROM registers ORDER BY place"
 
 abbrev pub register_project : List Term
-register_project = col 1 2 ∷ []
+register_project = col 1 0 ∷ col 1 2 ∷ col 1 3 ∷ col 1 4 ∷ col 1 5 ∷ col 1 6 ∷ col 1 7 ∷ []
 
-pub register_rows_is : command_of (understood books_schema register_rows) ≡ Select (record { lets = []; body = scan 5 [] register_project ((col 1 0, rising) ∷ []) no_limit }) names
+abbrev pub register_names : List (List ℕ)
+register_names = codes "place" ∷ codes "name" ∷ codes "device" ∷ codes "function" ∷ codes "address" ∷ codes "scale_kind" ∷ codes "scale" ∷ []
+
+pub register_rows_is : command_of (understood books_schema register_rows) ≡ Select (record { lets = []; body = scan 5 [] register_project ((col 1 0, rising) ∷ []) no_limit }) register_names
 unfolding understood everything
 register_rows_is = refl
 
@@ -82,4 +88,4 @@ register_rows_plain = (refl, refl)
 
 pub register_rows_suits : Suits books_schema register_rows []
 unfolding understood everything
-register_rows_suits = suits_scan 5 [] register_project ((col 1 0, rising) ∷ []) no_limit register_rows names [] (refl, refl, refl) register_rows_plain register_rows_unlisted register_rows_is refl
+register_rows_suits = suits_scan 5 [] register_project ((col 1 0, rising) ∷ []) no_limit register_rows register_names [] (refl, refl, refl) register_rows_plain register_rows_unlisted register_rows_is refl

@@ -1,15 +1,15 @@
 -- Lemmas on meters that overlap at a register: the audit reports none if and only if each meter was
 -- closed when the later meters of its register were opened.
-use Rattle.std.proofs.Common.{◌≡◌, ◌↔◌, ◌+◌, ◌<◌, ◌≤◌, ℕ, suc, Bool, true, false, not, ◌&&◌, cond, List, [], ◌∷◌, ◌++◌, drop, take, length, get_or, Option, Some, None, find, filter_map, option_to_list, refl, sym, ap, subst, ◌∙◌, append_assoc, add-one}
+use Rattle.std.proofs.Common.{◌≡◌, ◌↔◌, ◌+◌, ◌<◌, ◌≤◌, ℕ, suc, Bool, true, false, not, cond, List, [], ◌∷◌, ◌++◌, drop, take, length, get_or, Option, Some, None, find, filter_map, option_to_list, refl, sym, ap, subst, ◌∙◌, append_assoc, add-one}
 use Rattle.std.specs.List.{list_all}
 use Rattle.std.proofs.Math.Seq.{drop-cons}
 use Rattle.std.proofs.Math.ListN.{drop_of_length-le}
+use Rattle.std.proofs.lemmas.Bool.{and_parts, and_from}
 use Rattle.table_audit.specs.declared.differences.Difference.{Difference}
 use Rattle.table_audit.specs.declared.differences.Difference.TheVariants.{Overlap}
 use Rattle.table_audit.specs.declared.spans.MeterSpan.{MeterSpan}
 use Rattle.table_audit.specs.Spans.{follows, never_overlap, overlap_with, first_overlap, overlaps}
 use Rattle.table_audit.proofs.Named.{append_none, both_none}
-use Rattle.table_audit.proofs.NamesFound.{and_true, true_and}
 
 -- Lemmas on the search for the first later meter that overlaps an earlier one.
 
@@ -69,22 +69,22 @@ none_first : (earlier : MeterSpan) (spans : List MeterSpan) → overlap_with ear
 none_first earlier [] none = refl
 none_first earlier (later ∷ spans) none =
     let two = none_here earlier later spans (follows earlier later) refl none in
-    true_and (follows earlier later) (list_all (follows earlier) spans) two.0 (none_first earlier spans two.1)
+    and_from (follows earlier later) (list_all (follows earlier) spans) two.0 (none_first earlier spans two.1)
 
 first_none : (earlier : MeterSpan) (spans : List MeterSpan) → list_all (follows earlier) spans ≡ true → overlap_with earlier (first_overlap earlier spans) ≡ []
 first_none earlier [] all = refl
 first_none earlier (later ∷ spans) all =
-    let two = and_true (follows earlier later) (list_all (follows earlier) spans) all in
+    let two = and_parts (follows earlier later) (list_all (follows earlier) spans) all in
     ap (λ (b : Bool). overlap_with earlier (cond (not b) (Some later) (first_overlap earlier spans))) two.0 ∙ first_none earlier spans two.1
 
 pub none_overlap : (spans : List MeterSpan) → overlaps spans ≡ [] → never_overlap spans ≡ true
 none_overlap [] none = refl
 none_overlap (span ∷ spans) none =
     let two = both_none (overlap_with span (first_overlap span spans)) (overlaps spans) none in
-    true_and (list_all (follows span) spans) (never_overlap spans) (none_first span spans two.0) (none_overlap spans two.1)
+    and_from (list_all (follows span) spans) (never_overlap spans) (none_first span spans two.0) (none_overlap spans two.1)
 
 pub overlap_none : (spans : List MeterSpan) → never_overlap spans ≡ true → overlaps spans ≡ []
 overlap_none [] never = refl
 overlap_none (span ∷ spans) never =
-    let two = and_true (list_all (follows span) spans) (never_overlap spans) never in
+    let two = and_parts (list_all (follows span) spans) (never_overlap spans) never in
     ap (λ (ds : List Difference). ds ++ overlaps spans) (first_none span spans two.0) ∙ overlap_none spans two.1

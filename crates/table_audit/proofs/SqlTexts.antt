@@ -48,6 +48,33 @@ pub range_rows_suits : (meter : List ℕ) → Suits books_schema range_rows (Tex
 unfolding understood everything
 range_rows_suits meter = suits_scan 18 of_meter range_project [] no_limit range_rows range_names (Text meter ∷ []) (refl, refl, refl) range_rows_plain range_rows_unlisted range_rows_is refl
 
+-- Lemmas on the meaning of the SQL query for a meter's voids (cancellations of entries).
+
+abbrev pub void_rows : List ℕ
+void_rows = codes "SELECT place, moment FROM voids WHERE meter = ?1 ORDER BY place"
+
+abbrev pub void_project : List Term
+void_project = col 1 2 ∷ col 1 3 ∷ []
+
+abbrev pub void_names : List (List ℕ)
+void_names = codes "place" ∷ codes "moment" ∷ []
+
+pub void_rows_is : command_of (understood books_schema void_rows) ≡ Select (record { lets = []; body = scan 20 of_meter void_project ((col 1 2, rising) ∷ []) no_limit }) void_names
+unfolding understood everything
+void_rows_is = refl
+
+pub void_rows_unlisted : reads_listing books_schema void_rows ≡ false
+unfolding understood everything
+void_rows_unlisted = refl
+
+pub void_rows_plain : IsPlain (understood books_schema void_rows)
+unfolding understood everything
+void_rows_plain = (refl, refl)
+
+pub void_rows_suits : (meter : List ℕ) → Suits books_schema void_rows (Text meter ∷ [])
+unfolding understood everything
+void_rows_suits meter = suits_scan 20 of_meter void_project ((col 1 2, rising) ∷ []) no_limit void_rows void_names (Text meter ∷ []) (refl, refl, refl) void_rows_plain void_rows_unlisted void_rows_is refl
+
 -- Lemmas on the meaning of the SQL query for a meter's energy by quarter hours.
 
 abbrev pub share_rows : List ℕ

@@ -1,6 +1,6 @@
 -- Defines when the table `meta` has exactly one row, and this row is that of a file of the
 -- program's present version.
-use Rattle.std.specs.Prelude.{◌≡◌, ◌↔◌, ℕ, pos, Bool, List, [], ◌∷◌, IsTrue, IsUtf8}
+use Rattle.std.specs.Prelude.{◌≡◌, ◌↔◌, ℕ, pos, Bool, List, [], ◌∷◌, Option, Some, None, String, string_bytes, IsTrue, IsUtf8}
 use Rattle.interval_core.specs.Zone.{IsZoneText}
 use Rattle.sqlite.specs.declared.types.Value.TheVariants.{Int, Text}
 use Rattle.sqlite.specs.Order.{Row, column}
@@ -44,3 +44,33 @@ pub record ReportsMark (content : Content) (fine : Bool) : Type 0 where
   pub rows : List Row
   pub shown : ShowsMarks content rows
   pub reported : IsTrue fine ↔ AreMarks rows
+
+-- States that the rows of `meta` are a single row, with the time zone whose text is `zone`.
+pub record HasOneZone (rows : List Row) (zone : List ℕ) : Type 0 where
+  pub row : Row
+  pub one : rows ≡ row ∷ []
+  pub is : column row 2 ≡ Text zone
+  pub utf8 : IsUtf8 zone
+  pub valid : IsZoneText zone
+
+-- States that a result is the text of the time zone of a single row. None means that there is not
+-- exactly one row, or that the row has no time zone.
+abbrev pub ReadsZone : {Z : Type 0} → List Row → Option (String Z) → Type 0
+ReadsZone rows None = (zone : List ℕ) → HasOneZone rows zone → ⊥
+ReadsZone rows (Some zone) = HasOneZone rows (string_bytes zone)
+
+-- States that `meta` has exactly one row, with the time zone whose text is `zone`.
+pub record IsZoneOf (content : Content) (zone : List ℕ) : Type 0 where
+  pub rows : List Row
+  pub shown : ShowsMarks content rows
+  pub row : Row
+  pub one : rows ≡ row ∷ []
+  pub is : column row 2 ≡ Text zone
+  pub utf8 : IsUtf8 zone
+  pub valid : IsZoneText zone
+
+-- States that a result is the text of the file's time zone, or None because `meta` has none or not
+-- exactly one row.
+abbrev pub FindsZone : {Z : Type 0} → Content → Option (String Z) → Type 0
+FindsZone content None = (zone : List ℕ) → IsZoneOf content zone → ⊥
+FindsZone content (Some zone) = IsZoneOf content (string_bytes zone)

@@ -8,24 +8,24 @@ use Rattle.meter_journal.specs.declared.audit.intervals.IntervalFault.{IntervalF
 use Rattle.meter_journal.specs.declared.audit.intervals.IntervalFault.TheVariants as fault
 use Rattle.table_audit.specs.declared.differences.Difference.{Difference}
 use Rattle.table_audit.specs.declared.differences.Difference.TheVariants as difference
-use Rattle.table_audit.specs.declared.differences.NamedTable.{NamedTable}
-use Rattle.table_audit.specs.declared.differences.NamedTable.TheVariants as named
 use Rattle.table_audit.specs.declared.differences.PollFault.{PollFault}
 use Rattle.table_audit.specs.declared.differences.PollFault.TheVariants as of_poll
 use Rattle.table_audit.specs.declared.findings.Counts.{Counts}
 use Rattle.table_audit.specs.declared.findings.Finding.{Finding}
 use Rattle.table_audit.specs.declared.findings.Findings.{Findings}
 use Rattle.table_audit.specs.Meters.{up_to_most}
-use Rattle.table_audit.specs.Texts.{table_name, with_cause}
+use Rattle.table_audit.specs.Texts.{named_table, table_name, with_cause}
 
 -- The value of the member `kind`, which names the kind of a discrepancy.
 abbrev pub kind_word : Difference → List ℕ
 kind_word (difference.OutOfRange name) = codes "range"
 kind_word (difference.Unnamed name row) = codes "unnamed"
+kind_word (difference.Unreadable name row) = codes "unreadable"
 kind_word (difference.Installation has wanted) = codes "place"
 kind_word difference.NotOpened = codes "opening"
 kind_word (difference.Entry place why) = codes "entry"
 kind_word (difference.Void place) = codes "void"
+kind_word (difference.EarlyVoid place moment entered) = codes "void_early"
 kind_word (difference.Interval differs) = codes "interval"
 kind_word (difference.Last has wanted) = codes "last"
 kind_word (difference.Total has wanted) = codes "total"
@@ -33,13 +33,6 @@ kind_word (difference.Ended wanted) = codes "ended"
 kind_word (difference.NoPolls first last) = codes "polls_missing"
 kind_word (difference.Poll poll of_it) = codes "poll"
 kind_word (difference.Overlap register earlier later) = codes "overlap"
-
--- The SQL name of a table whose rows have names of their own.
-abbrev pub named_table : NamedTable → List ℕ
-named_table named.Installations = codes "installations"
-named_table named.Devices = codes "devices"
-named_table named.Points = codes "points"
-named_table named.Registers = codes "registers"
 
 -- Appends the text `before`, and a word in quotes.
 abbrev pub with_quoted : List ℕ → (before word : List ℕ) → List ℕ
@@ -88,6 +81,8 @@ with_members text (difference.OutOfRange name) =
     with_quoted text (codes ",\"table\":") (table_name name)
 with_members text (difference.Unnamed name row) =
     with_quoted text (codes ",\"table\":") (named_table name) ++ codes ",\"row\":" ++ decimal row
+with_members text (difference.Unreadable name row) =
+    with_quoted text (codes ",\"table\":") (named_table name) ++ codes ",\"row\":" ++ decimal row
 with_members text (difference.Installation has wanted) =
     text ++ codes ",\"has\":" ++ decimal has ++ codes ",\"expected\":" ++ decimal wanted
 with_members text difference.NotOpened = text
@@ -95,6 +90,9 @@ with_members text (difference.Entry place why) =
     with_cause (text ++ codes ",\"index\":" ++ decimal place ++ codes ",\"reason\":\"") why
     ++ codes "\""
 with_members text (difference.Void place) = text ++ codes ",\"index\":" ++ decimal place
+with_members text (difference.EarlyVoid place moment entered) =
+    text ++ codes ",\"index\":" ++ decimal place ++ codes ",\"at\":" ++ decimal moment
+    ++ codes ",\"entered\":" ++ decimal entered
 with_members text (difference.Interval differs) = with_interval text differs
 with_members text (difference.Last has wanted) =
     with_stand (with_stand text (codes ",\"has\":") has) (codes ",\"expected\":") wanted

@@ -1,6 +1,7 @@
 -- Defines when the values that an audit read for a meter are those of a history of the meter that
 -- the rules for meter entries accept.
-use Rattle.std.specs.Prelude.{◌≡◌, ℕ, Bool, true, nat_lt, nat_le, ◌&&◌, List, [], ◌∷◌, reverse, length}
+use Rattle.std.specs.Prelude.{◌≡◌, ℕ, ◌-◌, Bool, true, nat_lt, nat_le, ◌&&◌, List, [], ◌∷◌, reverse, length, Option, Some, None, slice_get}
+use Rattle.std.specs.List.{list_all}
 use Rattle.energy_core.specs.declared.entries.Last.{Last}
 use Rattle.interval_core.specs.declared.shares.Share.{Share}
 use Rattle.meter_journal.specs.declared.lines.Installed.{Installed}
@@ -12,6 +13,7 @@ use Rattle.meter_journal.specs.Audit.Fitting.{Tables, AreFine}
 use Rattle.meter_journal.specs.Audit.Passing.{MayBeChecked}
 use Rattle.store_tables.specs.declared.meters.rows.LastRow.{LastRow}
 use Rattle.store_tables.specs.declared.meters.rows.InstallationRow.{InstallationRow}
+use Rattle.table_audit.specs.declared.rows.VoidRow.{VoidRow}
 
 -- States that `meter` has the counter range `range` and the power limit `ceiling`, and that `row`
 -- is its first entry.
@@ -24,12 +26,27 @@ pub record IsOpenedBy (range ceiling : ℕ) (row : TableRow) (meter : Installed)
 abbrev pub last_shown : TableRow → Last
 last_shown row = record { at = row.moment; raw = row.raw; sf = row.sf }
 
--- True if the indices in a list are strictly increasing, greater than `after`, and at most `most`.
--- The indices of a meter's voided (cancelled) entries must have this order.
-abbrev pub rises : (after most : ℕ) → List ℕ → Bool
+-- True if the indices of the entries that voids (cancellations) name are strictly increasing,
+-- greater than `after`, and at most `most`. The voids of a meter must have this order.
+abbrev pub rises : (after most : ℕ) → List VoidRow → Bool
 rises after most [] = true
-rises after most (place ∷ places) =
-    nat_lt after place && nat_le place most && rises place most places
+rises after most (void ∷ voids) =
+    nat_lt after void.place && nat_le void.place most && rises void.place most voids
+
+-- True if the entry that a void names, if there is one, is not later than the void's timestamp
+-- `moment`.
+abbrev pub is_not_before : Option TableRow → (moment : ℕ) → Bool
+is_not_before None moment = true
+is_not_before (Some entry) moment = nat_le entry.moment moment
+
+-- True if a void is not earlier than the entry that it names. The entry with the index 1 is the
+-- first one in the list.
+abbrev pub is_timely : List TableRow → VoidRow → Bool
+is_timely entries void = is_not_before (slice_get entries (void.place - 1)) void.moment
+
+-- True if no void in a list is earlier than the entry that it names.
+abbrev pub are_timely : List TableRow → List VoidRow → Bool
+are_timely entries voids = list_all (is_timely entries) voids
 
 -- The timestamp, raw counter value and scale factor of a meter's last entry, from the columns of
 -- its `installations` row.
@@ -49,8 +66,8 @@ tables_from entries shares row = record {
 
 -- States that the values that an audit read from a meter's table rows follow from a history that
 -- the rules for meter entries accept. Each void record (cancellation) names an entry after the
--- first one, and no two void records name the same entry.
-pub record IsLawful (range : ℕ) (row : InstallationRow) (voids : List ℕ)
+-- first one, and is not earlier than this entry. No two void records name the same entry.
+pub record IsLawful (range : ℕ) (row : InstallationRow) (voids : List VoidRow)
     (entries : List TableRow) (shares : List Share) : Type 0 where
   pub opening : TableRow
   pub later : List TableRow
@@ -60,6 +77,7 @@ pub record IsLawful (range : ℕ) (row : InstallationRow) (voids : List ℕ)
   pub opened : IsOpenedBy range row.ceiling opening meter
   pub fine : AreFine meter (tables_from entries shares row)
   pub named : rises 1 (length entries) voids ≡ true
+  pub timely : are_timely entries voids ≡ true
 
 -- States that the last entry, total energy and closed flag in a meter's `installations` row equal
 -- those that result from checking all the meter's entries.
@@ -70,8 +88,9 @@ pub record StandsThere (row : InstallationRow) (check : Check) : Type 0 where
 
 -- States that the void records (cancellations), interval rows and `installations` row of a meter
 -- agree with the result of checking all its entries.
-pub record RestAgrees (progress : Progress) (row : InstallationRow) (voids : List ℕ) (last : ℕ)
-    (shares : List Share) : Type 0 where
-  pub named : rises 1 last voids ≡ true
+pub record RestAgrees (progress : Progress) (row : InstallationRow) (voids : List VoidRow)
+    (entries : List TableRow) (shares : List Share) : Type 0 where
+  pub named : rises 1 (length entries) voids ≡ true
+  pub timely : are_timely entries voids ≡ true
   pub intervals : shares ≡ progress.wanted.items
   pub stands : StandsThere row progress.check

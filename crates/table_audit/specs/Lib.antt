@@ -1,6 +1,7 @@
 pub mod Showing
 pub mod Reading
 pub mod Lawful
+pub mod Booked
 pub mod Fine
 pub mod Looking
 pub mod Reporting
@@ -13,6 +14,7 @@ pub mod Polls
 pub mod Texts
 pub mod SchemaForms
 pub mod FileMark
+pub mod DeviceValues
 pub mod Names
 pub mod Spans
 pub mod Values

@@ -15,6 +15,7 @@ use Rattle.sqlite.specs.Order.{Row, column}
 use Rattle.store_tables.specs.declared.faults.RowFault.{RowFault}
 use Rattle.store_tables.specs.Columns.{whole_in, within, or_damaged, and_then}
 use Rattle.store_tables.specs.Limits.{greatest_place, latest_moment}
+use Rattle.table_audit.specs.declared.rows.VoidRow.{VoidRow}
 
 -- The entry kind with the number `n` in the tables, or None if no kind has this number.
 abbrev pub kind_of : ℕ → Option RowKind
@@ -31,14 +32,14 @@ kind_of n =
 abbrev pub kind_in : Value → Option RowKind
 kind_in v = option_and_then kind_of (whole_in 1 6 v)
 
--- True if `voids`, the indices of voided (cancelled) entries, contains the index `place`.
-abbrev pub is_named : (voids : List ℕ) → (place : ℕ) → Bool
-is_named voids place = list_any (λ v. v == place) voids
+-- True if one of a meter's voids (cancellations) names the entry at index `place`.
+abbrev pub is_named : (voids : List VoidRow) → (place : ℕ) → Bool
+is_named voids place = list_any (λ v. v.place == place) voids
 
--- Parses a meter entry from a result row. If `voids` contains the entry's index, the entry is
+-- Parses a meter entry from a result row. If one of the meter's voids names the entry, the entry is
 -- marked as voided (cancelled). If a column is out of its range, the result is the error that
 -- reports a damaged file.
-abbrev pub entry_in : (voids : List ℕ) → Row → Result TableRow RowFault
+abbrev pub entry_in : (voids : List VoidRow) → Row → Result TableRow RowFault
 entry_in voids row =
     and_then (or_damaged (whole_in 1 greatest_place (column row 0))) (λ place.
     and_then (or_damaged (kind_in (column row 1))) (λ kind.
@@ -58,10 +59,13 @@ entry_in voids row =
       is_voided = is_named voids place;
     }))))))))
 
--- Parses the index of a voided (cancelled) entry from a result row. If the index is out of its
--- range, the result is the error that reports a damaged file.
-abbrev pub place_in : Row → Result ℕ RowFault
-place_in row = or_damaged (whole_in 1 greatest_place (column row 0))
+-- Parses a void (a cancellation of an entry) from a result row. If a column is out of its range,
+-- the result is the error that reports a damaged file.
+abbrev pub void_in : Row → Result VoidRow RowFault
+void_in row =
+    and_then (or_damaged (whole_in 1 greatest_place (column row 0))) (λ place.
+    and_then (or_damaged (whole_in 0 latest_moment (column row 1))) (λ moment.
+    Ok (record { place = place; moment = moment })))
 
 -- Parses the start and the energy of a quarter hour from a result row. If a column is out of its
 -- range, the result is the error that reports a damaged file.

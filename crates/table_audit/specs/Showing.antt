@@ -53,9 +53,10 @@ entry_shown row =
     column row 1 ∷ column row 2 ∷ column row 3 ∷ column row 4 ∷ column row 5 ∷ column row 6
     ∷ column row 7 ∷ []
 
--- The result row of a query for a void record (a cancellation): the index of the voided entry.
+-- The result row of a query for a void record (a cancellation): the index of the voided entry, and
+-- the timestamp of the void.
 abbrev pub void_shown : Row → Row
-void_shown row = column row 1 ∷ []
+void_shown row = column row 1 ∷ column row 2 ∷ []
 
 -- The result row of a query for a quarter hour: its start and its energy.
 abbrev pub share_shown : Row → Row

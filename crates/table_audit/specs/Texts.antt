@@ -74,6 +74,13 @@ with_stand text before last =
     text ++ before ++ moment_text last.at ++ codes " " ++ decimal last.raw ++ codes " "
     ++ signed_decimal last.sf
 
+-- Appends to a text the words that say that the void of the entry at index `place` is earlier than
+-- the entry.
+abbrev pub with_early_void : List ℕ → (place moment entered : ℕ) → List ℕ
+with_early_void text place moment entered =
+    text ++ codes "void " ++ decimal place ++ codes " at " ++ moment_text moment
+    ++ codes " is before its entry at " ++ moment_text entered
+
 -- Appends to a text the words for a closed flag that disagrees with the meter's entries.
 abbrev pub with_ended : List ℕ → Bool → List ℕ
 with_ended text true = text ++ codes "is not ended, entries end it"
@@ -100,6 +107,13 @@ with_missing text first last =
     else text ++ codes "polls " ++ decimal first ++ codes " to " ++ decimal last
     ++ codes " are missing"
 
+-- The SQL name of a table whose rows have names of their own.
+abbrev pub named_table : NamedTable → List ℕ
+named_table named.Installations = codes "installations"
+named_table named.Devices = codes "devices"
+named_table named.Points = codes "points"
+named_table named.Registers = codes "registers"
+
 -- The text after the number of a row without a valid name.
 abbrev pub unnamed_text : NamedTable → List ℕ
 unnamed_text named.Installations = codes " of installations names no meter"
@@ -119,6 +133,9 @@ with_difference text (difference.OutOfRange name) =
     text ++ codes "has a row in " ++ table_name name ++ codes " with a value that none may have"
 with_difference text (difference.Unnamed of_table row) =
     text ++ codes "row " ++ decimal row ++ unnamed_text of_table
+with_difference text (difference.Unreadable of_table row) =
+    text ++ named_table of_table ++ codes " row " ++ decimal row
+    ++ codes " has a value out of its range"
 with_difference text (difference.Installation has wanted) =
     text ++ codes "place has " ++ decimal has ++ codes ", the next is " ++ decimal wanted
 with_difference text difference.NotOpened = text ++ codes "is opened by no lawful entry"
@@ -127,6 +144,8 @@ with_difference text (difference.Entry place why) =
 with_difference text (difference.Void place) =
     text ++ codes "void of entry " ++ decimal place
     ++ codes " names none, or one that another names"
+with_difference text (difference.EarlyVoid place moment entered) =
+    with_early_void text place moment entered
 with_difference text (difference.Interval differs) = with_interval text differs
 with_difference text (difference.Last has wanted) =
     with_stand (with_stand text (codes "last has ") has) (codes ", entries give ") wanted

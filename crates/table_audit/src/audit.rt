@@ -7,7 +7,7 @@ ghost use Rattle.table_audit.specs.Reporting.{Reports};
 use crate::differences::{Difference, Differences, MOST, Table};
 use crate::lawful::audit_read;
 use crate::queries::meter_rows;
-use crate::reading::{entries, places, range, shares};
+use crate::reading::{entries, range, shares, voids};
 use crate::rows::MeterRows;
 use sqlite::{Alter, Connection, Error, ErrorCode};
 use std::alloc::{AllocError, Global};
@@ -30,7 +30,7 @@ pub fn audit_rows(
         found.push(Difference::OutOfRange(Table::Ranges))?;
         return Ok(false);
     };
-    let Some(voids) = places(alloc, &rows.voids)? else {
+    let Some(voids) = voids(alloc, &rows.voids)? else {
         found.push(Difference::OutOfRange(Table::Voids))?;
         return Ok(false);
     };

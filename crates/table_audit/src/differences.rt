@@ -56,6 +56,12 @@ pub enum Difference {
         table: NamedTable,
         row: u64,
     },
+    /// A row of `devices` or `registers` has a valid name, but another value out of its range. The
+    /// number `row` counts the table's rows from 1, in the order of their indices.
+    Unreadable {
+        table: NamedTable,
+        row: u64,
+    },
     /// A row of `installations` has the index `has`, but `wanted` is the index that should follow.
     Installation {
         has: u64,
@@ -73,6 +79,13 @@ pub enum Difference {
     /// an entry that already has a void record.
     Void {
         place: u64,
+    },
+    /// The void record of the entry at index `place` has the timestamp `moment`, which is earlier
+    /// than `entered`, the timestamp of the entry. Both are in seconds since 1970-01-01 UTC.
+    EarlyVoid {
+        place: u64,
+        moment: u64,
+        entered: u64,
     },
     /// The stored energy of a quarter hour differs from the energy that follows from the meter's
     /// entries.

@@ -1,15 +1,19 @@
 //! Checks the row of the table `meta`, which has the version of the file and its time zone.
-ghost use Rattle.std.specs.Prelude.{◌≡◌, ◌↔◌, false, IsTrue};
+ghost use Rattle.std.specs.Prelude.{◌≡◌, ◌↔◌, false, IsTrue, IfOk};
+ghost use Rattle.sqlite.specs.Order.{column};
 ghost use Rattle.store_tables.specs.Answer.{every};
 ghost use Rattle.store_tables.specs.Asking.{Asks, ReportsRows, Shows};
 ghost use Rattle.store_tables.specs.Meta as meta;
 ghost use Rattle.table_audit.specs.FileMark.{AreMarks, HasZone, IsMark, ReportsMark, ShowsMarks, mark_shown};
+ghost use Rattle.table_audit.specs.FileMark.{FindsZone, ReadsZone};
 ghost use Rattle.table_audit.specs.Looking.{itself, Finds};
+ghost use Rattle.table_audit.specs.Reading.{IsTextIn};
 ghost use Rattle.table_audit.specs.Showing as showing;
 
 use interval_core::Zone;
 use sqlite::types::ValueRef;
-use sqlite::{Alter, Connection, Error, Row};
+use sqlite::{Alter, Connection, Error, ErrorCode, Row};
+use std::alloc::AllocError;
 use std::str::from_utf8;
 use store_tables::{RowFault, check_open, whole};
 
@@ -70,4 +74,45 @@ pub fn is_marked<S: Alter>(conn: &mut Connection<S>) -> Result<bool, RowFault>
 {
     let rows = marks(conn)?;
     Ok(are_marks(&rows))
+}
+
+/// Reads the third column of a row of `meta` as a UTF-8 text. Returns None if it has no UTF-8 text.
+fn third_text(row: &Row) -> Result<Option<String>, AllocError>
+    ensures { IfOk result (IsTextIn (column row.now 2)) }
+{
+    match row.get::<String>(2) {
+        Ok(text) => Ok(Some(text)),
+        Err(Error::SqliteFailure(ErrorCode::OutOfMemory)) => Err(AllocError),
+        Err(_) => Ok(None),
+    }
+}
+
+/// Returns the text of the time zone in the only row of `meta`. Returns None if there is not
+/// exactly one row, or the row has no time zone.
+fn zone_in(rows: &[Row]) -> Result<Option<String>, AllocError>
+    ensures { IfOk result (ReadsZone rows.now) }
+{
+    match rows {
+        [row] => {
+            if has_zone(row) {
+                third_text(row)
+            } else {
+                Ok(None)
+            }
+        }
+        _ => Ok(None),
+    }
+}
+
+/// Returns the text of the file's time zone. Returns None if the table `meta` does not have exactly
+/// one row, or the row has no time zone.
+pub fn zone_text<S: Alter>(conn: &mut Connection<S>) -> Result<Option<String>, RowFault>
+    requires { conn.old.in_transaction ≡ false }
+    ensures { Finds S.Store conn.old conn.new result FindsZone }
+{
+    let rows = marks(conn)?;
+    match zone_in(&rows) {
+        Ok(zone) => Ok(zone),
+        Err(_) => Err(RowFault::Sql(Error::SqliteFailure(ErrorCode::OutOfMemory))),
+    }
 }

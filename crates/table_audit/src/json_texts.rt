@@ -2,9 +2,9 @@
 ghost use Rattle.std.specs.Prelude.{◌≡◌, ◌++◌, OnOk, codes};
 ghost use Rattle.table_audit.specs.JsonTexts as json;
 
-use crate::differences::{Difference, NamedTable, PollFault};
+use crate::differences::{Difference, PollFault};
 use crate::findings::{Counts, Finding, Findings};
-use crate::texts::{table_name, write_cause};
+use crate::texts::{named_table, table_name, write_cause};
 use crate::values::{append_bytes, write_number, write_scale, write_word};
 use energy_core::Last;
 use meter_journal::audit::IntervalFault;
@@ -19,10 +19,12 @@ fn kind_word(difference: &Difference) -> &'static [u8]
     match difference {
         Difference::OutOfRange(_) => b"range",
         Difference::Unnamed { .. } => b"unnamed",
+        Difference::Unreadable { .. } => b"unreadable",
         Difference::Installation { .. } => b"place",
         Difference::NotOpened => b"opening",
         Difference::Entry { .. } => b"entry",
         Difference::Void { .. } => b"void",
+        Difference::EarlyVoid { .. } => b"void_early",
         Difference::Interval(_) => b"interval",
         Difference::Last { .. } => b"last",
         Difference::Total { .. } => b"total",
@@ -30,17 +32,6 @@ fn kind_word(difference: &Difference) -> &'static [u8]
         Difference::NoPolls { .. } => b"polls_missing",
         Difference::Poll { .. } => b"poll",
         Difference::Overlap { .. } => b"overlap",
-    }
-}
-
-fn named_table(table: NamedTable) -> &'static [u8]
-    ensures { result.now ≡ json.named_table table }
-{
-    match table {
-        NamedTable::Installations => b"installations",
-        NamedTable::Devices => b"devices",
-        NamedTable::Points => b"points",
-        NamedTable::Registers => b"registers",
     }
 }
 
@@ -143,7 +134,7 @@ fn write_members(text: &mut Vec<u8>, difference: Difference) -> Result<(), Alloc
 {
     match difference {
         Difference::OutOfRange(table) => write_quoted(text, b",\"table\":", table_name(table)),
-        Difference::Unnamed { table, row } => {
+        Difference::Unnamed { table, row } | Difference::Unreadable { table, row } => {
             write_quoted(text, b",\"table\":", named_table(table))?;
             write_number(text, b",\"row\":", row)
         }
@@ -159,6 +150,15 @@ fn write_members(text: &mut Vec<u8>, difference: Difference) -> Result<(), Alloc
             append_bytes(text, b"\"")
         }
         Difference::Void { place } => write_number(text, b",\"index\":", place),
+        Difference::EarlyVoid {
+            place,
+            moment,
+            entered,
+        } => {
+            write_number(text, b",\"index\":", place)?;
+            write_number(text, b",\"at\":", moment)?;
+            write_number(text, b",\"entered\":", entered)
+        }
         Difference::Interval(fault) => write_interval(text, fault),
         Difference::Last { has, wanted } => {
             write_counter(text, b",\"has\":", has)?;

@@ -9,6 +9,7 @@ ghost use Rattle.table_audit.specs.Reporting.{Reports};
 
 use crate::differences::{Difference, Differences, MOST};
 use crate::opening::opened;
+use crate::rows::VoidRow;
 use energy_core::Last;
 use interval_core::Share;
 use meter_journal::Installed;
@@ -21,7 +22,7 @@ use store_tables::InstallationRow;
 
 /// Checks a meter's entries after its opening (the first entry), up to the first entry that the
 /// rules for entries reject.
-fn go_over(
+pub(crate) fn go_over(
     meter: &Installed,
     progress: &mut Progress,
     rows: &[TableRow],
@@ -76,18 +77,46 @@ fn print_refused(
     Ok(())
 }
 
-/// Returns the first index in `places` that is not greater than the previous index, or is not from
-/// 2 to `last`. The void records (cancellations) of a meter must name entries with ascending
-/// indices in this range.
-fn first_astray(last: u64, places: &[u64]) -> Option<u64>
-    ensures { IsNone result ↔ (agreeing.rises 1 last places.now ≡ true) }
+/// Returns the first index in `voids` that is not greater than the previous index, or is not from 2
+/// to `last`. The void records (cancellations) of a meter must name entries with ascending indices
+/// in this range.
+fn first_astray(last: u64, voids: &[VoidRow]) -> Option<u64>
+    ensures { IsNone result ↔ (agreeing.rises 1 last voids.now ≡ true) }
 {
     let mut after = 1;
-    for place in places {
-        if *place <= after || last < *place {
-            return Some(*place);
+    for void in voids {
+        if void.place <= after || last < void.place {
+            return Some(void.place);
         }
-        after = *place;
+        after = void.place;
+    }
+    None
+}
+
+/// Returns the timestamp of the entry that a void record names, if the entry is later than the
+/// void record.
+fn later_entry(entries: &[TableRow], void: &VoidRow) -> Option<u64>
+    ensures { IsNone result ↔ (agreeing.is_timely entries.now void.now ≡ true) }
+{
+    let index = void.place.saturating_sub(1) as usize;
+    match entries.get(index) {
+        Some(entry) if void.moment < entry.moment => Some(entry.moment),
+        _ => None,
+    }
+}
+
+/// Returns the first void record that is earlier than the entry that it names, as a discrepancy.
+fn first_early(entries: &[TableRow], voids: &[VoidRow]) -> Option<Difference>
+    ensures { IsNone result ↔ (agreeing.are_timely entries.now voids.now ≡ true) }
+{
+    for void in voids {
+        if let Some(entered) = later_entry(entries, void) {
+            return Some(Difference::EarlyVoid {
+                place: void.place,
+                moment: void.moment,
+                entered,
+            });
+        }
     }
     None
 }
@@ -95,7 +124,7 @@ fn first_astray(last: u64, places: &[u64]) -> Option<u64>
 /// Reports the first void record (the cancellation of a reading) that names no entry after the
 /// opening (the first entry), or names an entry again. Returns true if there is no such void
 /// record.
-fn append_voids(last: u64, voids: &[u64], found: &mut Differences) -> Result<bool, AllocError>
+fn append_astray(last: u64, voids: &[VoidRow], found: &mut Differences) -> Result<bool, AllocError>
     requires few { length found.old.first.items ≤ MOST }
     ensures named { IfOk result (λ named. IsTrue named ↔ (agreeing.rises 1 last voids.now ≡ true)) }
     ensures reports { IfOk result (λ named. Reports named found.old found.new) }
@@ -108,6 +137,47 @@ fn append_voids(last: u64, voids: &[u64], found: &mut Differences) -> Result<boo
             Ok(false)
         }
     }
+}
+
+/// Reports the first void record that is earlier than the entry that it names. Returns true if
+/// there is no such void record.
+fn append_early(
+    entries: &[TableRow],
+    voids: &[VoidRow],
+    found: &mut Differences,
+) -> Result<bool, AllocError>
+    requires few { length found.old.first.items ≤ MOST }
+    ensures timely { IfOk result (λ timely.
+        IsTrue timely ↔ (agreeing.are_timely entries.now voids.now ≡ true)) }
+    ensures reports { IfOk result (λ timely. Reports timely found.old found.new) }
+    ensures few { OnOk result (length found.new.first.items ≤ MOST) }
+{
+    match first_early(entries, voids) {
+        None => Ok(true),
+        Some(difference) => {
+            found.push(difference)?;
+            Ok(false)
+        }
+    }
+}
+
+/// Reports the first void record (the cancellation of a reading) that names no entry it may cancel,
+/// and the first one that is earlier than its entry. Returns true if there is no such void record.
+fn append_voids(
+    entries: &[TableRow],
+    voids: &[VoidRow],
+    found: &mut Differences,
+) -> Result<bool, AllocError>
+    requires few { length found.old.first.items ≤ MOST }
+    ensures fine { IfOk result (λ fine. IsTrue fine
+        ↔ (agreeing.rises 1 (length entries.now) voids.now ≡ true)
+        × (agreeing.are_timely entries.now voids.now ≡ true)) }
+    ensures reports { IfOk result (λ fine. Reports fine found.old found.new) }
+    ensures few { OnOk result (length found.new.first.items ≤ MOST) }
+{
+    let named = append_astray(entries.len() as u64, voids, found)?;
+    let timely = append_early(entries, voids, found)?;
+    Ok(named && timely)
 }
 
 /// Reports each difference between the expected interval rows `wanted` (energies of quarter hours)
@@ -236,21 +306,21 @@ fn report_state(
 fn append_rest(
     progress: &Progress,
     row: &InstallationRow,
-    voids: &[u64],
-    last: u64,
+    voids: &[VoidRow],
+    entries: &[TableRow],
     shares: &[Share],
     found: &mut Differences,
 ) -> Result<bool, AllocError>
     requires few { length found.old.first.items ≤ MOST }
     ensures agrees { IfOk result (λ agrees. IsTrue agrees
-        ↔ agreeing.RestAgrees progress.now row.now voids.now last shares.now) }
+        ↔ agreeing.RestAgrees progress.now row.now voids.now entries.now shares.now) }
     ensures reports { IfOk result (λ agrees. Reports agrees found.old found.new) }
     ensures few { OnOk result (length found.new.first.items ≤ MOST) }
 {
-    let named = append_voids(last, voids, found)?;
+    let fine = append_voids(entries, voids, found)?;
     let same = print_intervals(progress.wanted.as_slice(), shares, found)?;
     let stands = report_state(&progress.check, row, found)?;
-    Ok(named && same && stands)
+    Ok(fine && same && stands)
 }
 
 /// Returns whether the values read for a meter follow from a history of the meter that the rules
@@ -259,7 +329,7 @@ pub(crate) fn audit_read(
     alloc: Global,
     range: u64,
     row: &InstallationRow,
-    voids: &[u64],
+    voids: &[VoidRow],
     entries: &[TableRow],
     shares: &[Share],
     found: &mut Differences,
@@ -286,5 +356,5 @@ pub(crate) fn audit_read(
         print_refused(&meter, &mut progress, later, refused, found)?;
         return Ok(false);
     }
-    append_rest(&progress, row, voids, entries.len() as u64, shares, found)
+    append_rest(&progress, row, voids, entries, shares, found)
 }

@@ -4,6 +4,8 @@
 #![tactic(auto)]
 
 mod audit;
+mod booking;
+mod device_values;
 mod differences;
 mod file_mark;
 mod findings;
@@ -26,17 +28,19 @@ mod texts;
 mod values;
 
 pub use audit::{audit_meter, audit_rows};
+pub use booking::booked;
 pub use differences::{Difference, Differences, MOST, NamedTable, PollFault, Table};
-pub use file_mark::is_marked;
+pub use file_mark::{is_marked, zone_text};
 pub use findings::{Counts, Finding, Findings};
 pub use json_texts::write_json;
 pub use meters::audit_meters;
+pub use names::{devices, name, registers};
 pub use poll_queries::{last_poll, run_rows};
 pub use poll_rows::{OutcomeRow, PollRow, RUN, RunRows};
 pub use polls::audit_tables;
 pub use queries::{installations, meter_rows};
-pub use reading::{entries, installation, places, range};
-pub use rows::MeterRows;
+pub use reading::{entries, installation, range, voids};
+pub use rows::{MeterRows, VoidRow};
 pub use schema::{SchemaFault, check_definitions};
 pub use texts::write_findings;
-pub use values::{write_count, write_moment};
+pub use values::{write_count, write_energy, write_moment};

@@ -141,9 +141,10 @@ fn append_last(findings: &mut Findings) -> Result<(), RowFault>
 
 /// Audits all tables. Each meter must have the rows of a history that the rules accept, and the
 /// meters of a register must follow each other. Devices, points, registers and meters must have
-/// valid names. No poll may be missing, start before an earlier poll, or end before its start.
-/// Returns the discrepancies, and how many rows were read. Memory holds all rows of
-/// `installations`, all names, and the rows of one meter or of `RUN` polls at a time.
+/// valid names, and all other values of devices and registers must be in their ranges. No poll may
+/// be missing, start before an earlier poll, or end before its start. Returns the discrepancies,
+/// and how many rows were read. Memory holds all rows of `installations`, all devices, all names,
+/// and the rows of one meter or of `RUN` polls at a time.
 pub fn audit_tables<S: Alter>(alloc: Global, conn: &mut Connection<S>) -> Result<Findings, RowFault>
     requires mode { conn.old.in_transaction ≡ false }
     ensures finds { Finds S.Store conn.old conn.new result said.ReportsTables }

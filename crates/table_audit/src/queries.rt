@@ -54,7 +54,7 @@ fn ask_voids<S: Alter>(conn: &mut Connection<S>, meter: &str) -> Result<Vec<Row>
         (Shows (showing.is_of meter.now) showing.InOrder showing.void_shown) }
 {
     conn.query_all(
-        "SELECT place FROM voids WHERE meter = ?1 ORDER BY place",
+        "SELECT place, moment FROM voids WHERE meter = ?1 ORDER BY place",
         params![meter],
     )
 }

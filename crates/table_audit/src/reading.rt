@@ -1,12 +1,14 @@
 //! Parses the rows that the tables have for a meter.
-ghost use Rattle.std.specs.Prelude.{◌≡◌, ◌↔◌, ◌<◌, ◌^◌, ◌∷◌, [], All, IfOk, IfSome};
+ghost use Rattle.std.specs.Prelude.{◌≡◌, ◌↔◌, ◌<◌, ◌≤◌, ◌^◌, ◌∷◌, [], All, IfOk, IfSome};
 ghost use Rattle.std.specs.Prelude.{IsSomeAnd, MatchOption, Some, None, true};
+ghost use Rattle.interval_core.specs.declared.limits.TheConstants.{LAST_MOMENT};
 ghost use Rattle.office_events.specs.Names.{is_name};
 ghost use Rattle.sqlite.specs.Order.{column};
 ghost use Rattle.store_tables.specs.Columns.{or_damaged};
 ghost use Rattle.store_tables.specs.Meters.Rows.{flag_in, last_in, installation_in};
 ghost use Rattle.table_audit.specs.Reading as values;
 
+use crate::rows::VoidRow;
 use energy_core::{MAX_CEILING, MAX_RANGE, MAX_SHOWN, MAX_TOTAL, MIN_RANGE};
 use interval_core::Share;
 use meter_journal::audit::{RowKind, TableRow};
@@ -34,18 +36,19 @@ fn kind(row: &Row, at: usize) -> Result<RowKind, RowFault>
     }
 }
 
-/// Returns whether `voids`, the indices of voided (cancelled) entries, contains the index `place`.
-fn is_named(voids: &[u64], place: u64) -> bool
+/// Returns whether one of a meter's voids (cancellations) names the entry at index `place`.
+fn is_named(voids: &[VoidRow], place: u64) -> bool
     ensures { result ≡ values.is_named voids.now place }
 {
-    voids.iter().any(|v| *v == place)
+    voids.iter().any(|v| v.place == place)
 }
 
-/// Parses a meter entry from a result row. `voids` has the indices of the meter's voided
-/// (cancelled) entries.
-fn entry(row: &Row, voids: &[u64]) -> Result<TableRow, RowFault>
+/// Parses a meter entry from a result row. `voids` has the meter's voids (cancellations of
+/// entries).
+fn entry(row: &Row, voids: &[VoidRow]) -> Result<TableRow, RowFault>
     ensures read { result ≡ values.entry_in voids.now row.now }
     ensures place { IfOk result (λ entry. entry.place < 2 ^ 63) }
+    ensures moment { IfOk result (λ entry. entry.moment ≤ LAST_MOMENT) }
 {
     let place = whole(row, 0, 1, GREATEST_PLACE)?;
     let kind = kind(row, 1)?;
@@ -67,11 +70,13 @@ fn entry(row: &Row, voids: &[u64]) -> Result<TableRow, RowFault>
     })
 }
 
-/// Parses the index of a voided (cancelled) entry from a result row.
-fn place(row: &Row) -> Result<u64, RowFault>
-    ensures { result ≡ values.place_in row.now }
+/// Parses a void (a cancellation of an entry) from a result row.
+fn void_row(row: &Row) -> Result<VoidRow, RowFault>
+    ensures { result ≡ values.void_in row.now }
 {
-    whole(row, 0, 1, GREATEST_PLACE)
+    let place = whole(row, 0, 1, GREATEST_PLACE)?;
+    let moment = whole(row, 1, 0, LATEST_MOMENT)?;
+    Ok(VoidRow { place, moment })
 }
 
 /// Parses the start and the energy of a quarter hour from a result row.
@@ -102,11 +107,13 @@ pub fn range(rows: &[Row]) -> Option<u64>
 pub fn entries(
     alloc: Global,
     rows: &[Row],
-    voids: &[u64],
+    voids: &[VoidRow],
 ) -> Result<Option<Vec<TableRow>>, AllocError>
     ensures read { IfOk result (values.AreRead (values.entry_in voids.now) rows.now) }
     ensures places { IfOk result (λ found.
         IfSome found (λ entries. All (λ entry. entry.place < 2 ^ 63) entries.items)) }
+    ensures moments { IfOk result (λ found.
+        IfSome found (λ entries. All (λ entry. entry.moment ≤ LAST_MOMENT) entries.items)) }
 {
     let mut found = Vec::new(alloc);
     for row in rows {
@@ -118,15 +125,15 @@ pub fn entries(
     Ok(Some(found))
 }
 
-/// Parses the indices of a meter's voided (cancelled) entries. Returns None if a result row has an
-/// index out of its range.
-pub fn places(alloc: Global, rows: &[Row]) -> Result<Option<Vec<u64>>, AllocError>
-    ensures { IfOk result (values.AreRead values.place_in rows.now) }
+/// Parses a meter's voids (cancellations of entries) in the order of the result rows. Returns None
+/// if a result row has a value out of its range.
+pub fn voids(alloc: Global, rows: &[Row]) -> Result<Option<Vec<VoidRow>>, AllocError>
+    ensures { IfOk result (values.AreRead values.void_in rows.now) }
 {
     let mut found = Vec::new(alloc);
     for row in rows {
-        match place(row) {
-            Ok(place) => found.push(place)?,
+        match void_row(row) {
+            Ok(void) => found.push(void)?,
             Err(_) => return Ok(None),
         }
     }

@@ -11,3 +11,11 @@ pub struct MeterRows {
     pub voids: Vec<Row>,
     pub intervals: Vec<Row>,
 }
+
+/// A row of the table `voids`: the index of the voided (cancelled) entry, and the time of the void
+/// in seconds since 1970-01-01 UTC.
+#[derive(Clone, Copy, PartialEq, Eq)]
+pub struct VoidRow {
+    pub place: u64,
+    pub moment: u64,
+}

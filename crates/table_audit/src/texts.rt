@@ -105,6 +105,20 @@ fn write_latest(text: &mut Vec<u8>, has: Last, wanted: Last) -> Result<(), Alloc
     write_counter(text, b", entries give ", wanted)
 }
 
+/// Appends that the void record of the entry at index `place` is earlier than the entry.
+fn write_early_void(
+    text: &mut Vec<u8>,
+    place: u64,
+    moment: u64,
+    entered: u64,
+) -> Result<(), AllocError>
+    ensures { OnOk result (text.new.items ≡ say.with_early_void text.old.items place moment entered) }
+{
+    write_number(text, b"void ", place)?;
+    write_moment(text, b" at ", moment)?;
+    write_moment(text, b" is before its entry at ", entered)
+}
+
 fn write_ended(text: &mut Vec<u8>, wanted: bool) -> Result<(), AllocError>
     ensures { OnOk result (text.new.items ≡ say.with_ended text.old.items wanted) }
 {
@@ -138,6 +152,17 @@ fn write_missing(text: &mut Vec<u8>, first: u64, last: u64) -> Result<(), AllocE
     write_number(text, b"polls ", first)?;
     write_number(text, b" to ", last)?;
     append_bytes(text, b" are missing")
+}
+
+pub(crate) fn named_table(table: NamedTable) -> &'static [u8]
+    ensures { result.now ≡ say.named_table table }
+{
+    match table {
+        NamedTable::Installations => b"installations",
+        NamedTable::Devices => b"devices",
+        NamedTable::Points => b"points",
+        NamedTable::Registers => b"registers",
+    }
 }
 
 fn unnamed_text(table: NamedTable) -> &'static [u8]
@@ -178,6 +203,11 @@ fn write_difference(text: &mut Vec<u8>, difference: Difference) -> Result<(), Al
             write_number(text, b"row ", row)?;
             append_bytes(text, unnamed_text(table))
         }
+        Difference::Unreadable { table, row } => {
+            append_bytes(text, named_table(table))?;
+            write_number(text, b" row ", row)?;
+            append_bytes(text, b" has a value out of its range")
+        }
         Difference::Installation { has, wanted } => {
             write_number(text, b"place has ", has)?;
             write_number(text, b", the next is ", wanted)
@@ -192,6 +222,11 @@ fn write_difference(text: &mut Vec<u8>, difference: Difference) -> Result<(), Al
             write_number(text, b"void of entry ", place)?;
             append_bytes(text, b" names none, or one that another names")
         }
+        Difference::EarlyVoid {
+            place,
+            moment,
+            entered,
+        } => write_early_void(text, place, moment, entered),
         Difference::Interval(fault) => append_interval(text, fault),
         Difference::Last { has, wanted } => write_latest(text, has, wanted),
         Difference::Total { has, wanted } => write_energies(text, b"total has ", has, wanted),

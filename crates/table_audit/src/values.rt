@@ -84,8 +84,9 @@ fn last_digits(number: u64) -> [u8; 6]
     ]
 }
 
-/// Appends an energy in mWh, and in brackets the same energy in kWh with six decimals.
-pub(crate) fn write_energy(text: &mut Vec<u8>, before: &[u8], mwh: u64) -> Result<(), AllocError>
+/// Appends the prefix `before`, an energy in mWh, and in brackets the same energy in kWh with six
+/// decimals. If memory runs out, the text is incomplete.
+pub fn write_energy(text: &mut Vec<u8>, before: &[u8], mwh: u64) -> Result<(), AllocError>
     ensures { OnOk result (text.new.items
         ≡ text.old.items ++ before.now ++ value.energy_text mwh) }
 {

@@ -1,7 +1,7 @@
 use Rattle.std.proofs.Common.{rules, ◌≡◌, List, Ok, Err, subst}
 use Rattle.sqlite.specs.Order.{Row}
 use Rattle.table_audit.specs.Named.{IsReported}
-use Rattle.table_audit.specs.Names.{ShowsDevices, ShowsPoints, ShowsRegisters, ReportsNames, unnamed_in_all}
+use Rattle.table_audit.specs.Names.{ShowsDevices, ShowsPoints, ShowsRegisters, ReportsNames, found_in_all}
 use Rattle.table_audit.proofs.Looking.{finds_then, passed_on, made, cut_off}
 use Rattle.table_audit.proofs.NamesFound.{names_reported}
 use Rattle.table_audit.proofs.names.audit_names.Goals as goal
@@ -48,15 +48,15 @@ returns-in-Ok-clause-finds g c =
     (λ content rows. ShowsDevices content c.in_ok-devices.devices.items × ShowsPoints content c.in_ok-points.points.items × ShowsRegisters content rows.items)
     two c.in_ok-registers.ensures (λ content rows h g. (h.0, h.1, g)) in
     made g.S.Store c.args.conn.now c.registers.new.conn c.in_ok-registers.registers _ _
-    (λ content _. ReportsNames c.args.findings.now c.append_names.new.findings content) three
+    (λ content _. ReportsNames c.args.findings.now c.append_all.new.findings content) three
     (λ content h.
     let devices_are : c.deref.result.now ≡ c.in_ok-devices.devices.items = search rules in
     let points_are : c.deref-2.result.now ≡ c.in_ok-points.points.items = search rules in
     let registers_are : c.deref-3.result.now ≡ c.in_ok-registers.registers.items = search rules in
-    let each : IsReported (unnamed_in_all c.in_ok-devices.devices.items c.in_ok-points.points.items c.in_ok-registers.registers.items) c.args.findings.now c.append_names.new.findings =
-    subst (λ (ds : List Row). IsReported (unnamed_in_all ds c.in_ok-points.points.items c.in_ok-registers.registers.items) c.args.findings.now c.append_names.new.findings) devices_are
-    (subst (λ (ps : List Row). IsReported (unnamed_in_all c.deref.result.now ps c.in_ok-registers.registers.items) c.args.findings.now c.append_names.new.findings) points_are
-    (subst (λ (rs : List Row). IsReported (unnamed_in_all c.deref.result.now c.deref-2.result.now rs) c.args.findings.now c.append_names.new.findings) registers_are c.in-Ok.ensures.reported)) in
+    let each : IsReported (found_in_all c.in_ok-devices.devices.items c.in_ok-points.points.items c.in_ok-registers.registers.items) c.args.findings.now c.append_all.new.findings =
+    subst (λ (ds : List Row). IsReported (found_in_all ds c.in_ok-points.points.items c.in_ok-registers.registers.items) c.args.findings.now c.append_all.new.findings) devices_are
+    (subst (λ (ps : List Row). IsReported (found_in_all c.deref.result.now ps c.in_ok-registers.registers.items) c.args.findings.now c.append_all.new.findings) points_are
+    (subst (λ (rs : List Row). IsReported (found_in_all c.deref.result.now c.deref-2.result.now rs) c.args.findings.now c.append_all.new.findings) registers_are c.in-Ok.ensures.reported)) in
     record {
       devices = c.in_ok-devices.devices.items;
       points = c.in_ok-points.points.items;
@@ -65,7 +65,7 @@ returns-in-Ok-clause-finds g c =
       points_shown = h.1;
       registers_shown = h.2;
       each = each;
-      reported = names_reported c.in_ok-devices.devices.items c.in_ok-points.points.items c.in_ok-registers.registers.items c.args.findings.now c.append_names.new.findings each;
+      reported = names_reported c.in_ok-devices.devices.items c.in_ok-points.points.items c.in_ok-registers.registers.items c.args.findings.now c.append_all.new.findings each;
     })
 
 pub returns-clause-finds : goal.returns-clause-finds

@@ -1,5 +1,6 @@
-use Rattle.std.proofs.Common.{◌<◌, ◌^◌, All, [], ◌∷◌, Ok, sym, ap, subst, ◌∙◌, arith}
+use Rattle.std.proofs.Common.{◌<◌, ◌≤◌, ◌^◌, All, [], ◌∷◌, Ok, sym, ap, subst, ◌∙◌, arith}
 use Rattle.std.proofs.lemmas.List.Elements.{All-append, All-from_recursion}
+use Rattle.interval_core.specs.declared.limits.TheConstants.{LAST_MOMENT}
 use Rattle.meter_journal.specs.declared.audit.rows.TableRow.{TableRow}
 use Rattle.table_audit.specs.Reading.{entry_in}
 use Rattle.table_audit.proofs.ReadRows.{next_read, unread, all_read}
@@ -13,6 +14,9 @@ loop-row-preserved c = record {
   places = subst (All (λ (entry : TableRow). entry.place < 2 ^ 63)) (sym c.in_ok-push-in-Ok.ensures.items)
       (All-append (λ (entry : TableRow). entry.place < 2 ^ 63) c.loop-row.found.items (c.in-Ok.entry ∷ []) c.loop-row.invariant.places
       (All-from_recursion (λ (entry : TableRow). entry.place < 2 ^ 63) (c.in-Ok.entry ∷ []) (c.in-Ok.ensures.place, tt)));
+  moments = subst (All (λ (entry : TableRow). entry.moment ≤ LAST_MOMENT)) (sym c.in_ok-push-in-Ok.ensures.items)
+      (All-append (λ (entry : TableRow). entry.moment ≤ LAST_MOMENT) c.loop-row.found.items (c.in-Ok.entry ∷ []) c.loop-row.invariant.moments
+      (All-from_recursion (λ (entry : TableRow). entry.moment ≤ LAST_MOMENT) (c.in-Ok.entry ∷ []) (c.in-Ok.ensures.moment, tt)));
 }
 
 pub returns-in-Err-clause-read : goal.returns-in-Err-clause-read
