@@ -22,6 +22,7 @@ import tempfile
 import time
 
 import audit_rows
+from sealed import civil, seal_of
 
 HERE = pathlib.Path(__file__).resolve().parent
 BEGIN, DAY, DAYS = 1703808000, 86400, 6  # 2023-12-29 00:00 UTC
@@ -33,7 +34,6 @@ LISTED = {("installations", "ceiling"), ("installations", "register"), ("ranges"
 LISTED |= {("polls", it) for it in ("unit", "started", "tid", "function", "address", "count", "added", "gone")} | {("outcomes", it) for it in ("moment", "outcome", "code", "gone")}
 IN_ONE_QUARTER = {("entries", "raw"), ("voids", "place"), ("voids", "gone"), ("voids", "added")}
 VOIDED = {("entries", "raw"), ("entries", "rolls")}
-KINDS = {1: "opening", 2: "reading", 3: "manual", 4: "closing", 5: "reset", 6: "rescale"}
 FILES = ["first.db", "second.db", "third.db"]
 LIST = "name,function,area,address,type,scale\nwh,3,0,40094,acc32,\n"
 SITE = "1 device inv 1 5 1\n2 list inv @inv.csv\n3 register main inv 3 40094 0\n4 install main m1 65530 0 100000 65536\n"
@@ -183,7 +183,7 @@ def changed(*commands):
 
 def printed(entries, intervals):
     """Checks the output for known changes of Python's file."""
-    last, end, raw = len(entries), BEGIN + DAY * DAYS, entries[-1][4]
+    last, end, raw, voided = len(entries), BEGIN + DAY * DAYS, entries[-1][4], entries[4][3]
     here, astray, cant = f"WHERE place = {last}", "with a value that none may have", f"entry {last} can't come there:"
     for what, command, lines in (
         ("a quarter hour has more", f"UPDATE intervals SET mwh = 8 WHERE start = {BEGIN}", [f"interval {when(BEGIN)} has 8 mWh (0.000008 kWh), entries give 7 mWh (0.000007 kWh)"]),
@@ -202,6 +202,8 @@ def printed(entries, intervals):
         ("one that would be refused", f"UPDATE entries SET kind = 3, raw = 1 {here}", [f"{cant} it would be refused, fault 1"]),
         ("a void of one by hand", f"UPDATE entries SET kind = 3 {here}; UPDATE voids SET place = {last}", [f"{cant} a void names it, and it is no reading"]),
         ("a void of the opening", "UPDATE voids SET place = 1", ["is opened by no lawful entry"]),
+        ("a void before its entry", f"UPDATE voids SET moment = {voided - 1}", [f"void 5 at {when(voided - 1)} is before its entry at {when(voided)}"]),
+        ("a time of a void", "UPDATE voids SET moment = -1", [f"has a row in voids {astray}"]),
         ("a value of an entry", f"UPDATE entries SET rolls = 256 {here}", [f"has a row in entries {astray}"]),
         ("a value of a range", 'UPDATE ranges SET "range" = 65535', [f"has a row in ranges {astray}"]),
         ("a value of a meter", "UPDATE installations SET ceiling = 0", [f"has a row in installations {astray}"]),
@@ -213,6 +215,13 @@ def printed(entries, intervals):
     objects = ['{"kind":"interval","meter":"m1","start":%d,"has":null,"expected":"7"}' % (BEGIN + 900),
                '{"kind":"total","meter":"m1","has":"%d","expected":"%d"}' % (raw + 1, raw), '{"fine":false,"differences":2}']
     same("differences as JSON", audit("changed.db", "--format", "json"), (1, objects, []))
+    changed(f"UPDATE voids SET moment = {voided - 1}")
+    objects = ['{"kind":"void_early","meter":"m1","index":5,"at":%d,"entered":%d}' % (voided - 1, voided), '{"fine":false,"differences":1}']
+    same("a void before its entry as JSON", audit("changed.db", "--format", "json"), (1, objects, []))
+    same("a void in the second of its entry", changed(f"UPDATE voids SET moment = {voided}")[0], 0)
+    changed("UPDATE devices SET timeout = 0")
+    objects = ['{"kind":"unreadable","table":"devices","row":1}', '{"fine":false,"differences":1}']
+    same("an unreadable device as JSON", audit("changed.db", "--format", "json"), (1, objects, []))
     fine = '{"fine":true,"meters":1,"entries":%d,"intervals":%d,"polls":%d}' % (last, len(intervals), last)
     same("a sound file as JSON", audit("python.db", "--format", "json"), (0, [fine], []))
     same("a seal as JSON", audit("python.db", "--format", "json", "--seal")[:2], (2, []))
@@ -352,6 +361,19 @@ def around_meters(entries):
         ("a name that prints a verdict", renamed("'m1' || char(10) || 'fine'"), ["row 1 of installations names no meter"]),
         ("a point without a name", ["INSERT INTO points VALUES ('inv', 1, 'a-b', 3, 0, 40000, 'acc32', '')"], ["row 1 of points names no point"]),
         ("a point with a name", ["INSERT INTO points VALUES ('inv', 1, 'a.b_1', 3, 0, 40000, 'acc32', '')"], []),
+        ("a unit above 255", ["UPDATE devices SET unit = 256"], ["devices row 1 has a value out of its range"]),
+        ("a timeout of 0", ["UPDATE devices SET timeout = 0"], ["devices row 1 has a value out of its range"]),
+        ("a window above 16", ['UPDATE devices SET "window" = 17'], ["devices row 1 has a value out of its range"]),
+        ("a function that is none", ["UPDATE registers SET function = 9 WHERE place = 2"], ["registers row 2 has a value out of its range"]),
+        ("an address of which one half is outside", ["UPDATE registers SET address = 65535 WHERE place = 2"], ["registers row 2 has a value out of its range"]),
+        ("a kind of scale that is none", ["UPDATE registers SET scale_kind = 2 WHERE place = 2"], ["registers row 2 has a value out of its range"]),
+        ("a scale of 4", ["UPDATE registers SET scale_kind = 0, scale = 4 WHERE place = 2"], ["registers row 2 has a value out of its range"]),
+        ("a scale just near enough", ["UPDATE registers SET address = 100, scale_kind = 1, scale = 224 WHERE place = 2"], []),
+        ("a scale too far away", ["UPDATE registers SET address = 100, scale_kind = 1, scale = 225 WHERE place = 2"], ["registers row 2 has a value out of its range"]),
+        ("a register without a name, and with a scale of 4", ["UPDATE registers SET name = 'a b', scale_kind = 0, scale = 4 WHERE place = 2"],
+         ["row 2 of registers names no register"]),
+        ("a device without a unit, and a register without a name", ["UPDATE devices SET unit = -1", "UPDATE registers SET name = 'a b' WHERE place = 2"],
+         ["row 2 of registers names no register", "devices row 1 has a value out of its range"]),
         ("a poll before an earlier one", ["UPDATE polls SET started = (SELECT started - 1 FROM polls WHERE poll = 4) WHERE poll = 5"], ["poll 5 starts before an earlier poll"]),
         ("a poll as early as the last one", ["UPDATE polls SET started = (SELECT started FROM polls WHERE poll = 4) WHERE poll = 5"], []),
         ("a poll of the second run", [more, "UPDATE polls SET started = 1 WHERE poll = 4097"], ["poll 4097 starts before an earlier poll"]),
@@ -436,23 +458,12 @@ def changes(seed):
     print(f"of {tried} changes {told} were told, {refused} refused as the file was opened, and {sum(listed.values())} are of those that the page lists: {kept or 'none'} (seed {seed})")
 
 
-def seal_of(db):
-    """Computes the seal of a file's tables in Python."""
-    books, body = sqlite3.connect(db), "seal 2\n"
-    for meter, register, ceiling in books.execute("SELECT meter, register, ceiling FROM installations ORDER BY place").fetchall():
-        (span,) = books.execute('SELECT "range" FROM ranges WHERE meter = ?', [meter]).fetchone()
-        rows = books.execute('SELECT place, kind, moment, raw, "after", sf, rolls FROM entries WHERE meter = ? ORDER BY place', [meter]).fetchall()
-        # (a reading has no rollovers of its own: its neighbours give them)
-        lines = [f"{place} {KINDS[kind]} {moment} {raw} {after} {sf}" + f" {rolls}" * (kind != 2) + "\n" for place, kind, moment, raw, after, sf, rolls in rows]
-        body += f"meter {meter} at {register} range {span} ceiling {ceiling} entries {len(rows)} sha256 {hashlib.sha256(''.join(lines).encode()).hexdigest()}\n"
-        body += "".join(f"void {meter} {place}\n" for place, in books.execute("SELECT place FROM voids WHERE meter = ? ORDER BY place", [meter]))
-    polls = books.execute("SELECT poll, device, unit, started, tid, function, address, count FROM polls ORDER BY poll").fetchall()
-    outcomes = {poll: f"outcome {moment} {kind} {code}\n" for poll, moment, kind, code in books.execute("SELECT poll, moment, outcome, code FROM outcomes")}
-    lines = [f"poll {' '.join(str(it) for it in poll)}\n{outcomes.get(poll[0], '')}" for poll in polls]
-    body += f"polls {len(polls)} sha256 {hashlib.sha256(''.join(lines).encode()).hexdigest()}\n"
-    body += "".join(f"pending {poll[0]}\n" for poll in polls if poll[0] not in outcomes)
-    books.close()
-    return body + f"sha256 {hashlib.sha256(body.encode()).hexdigest()}\n"
+def twice(text, word):
+    """Returns the text of a seal, with its first line that begins with a word written twice."""
+    lines = text.splitlines(keepends=True)[:-1]
+    at = next(at for at, line in enumerate(lines) if line.startswith(word + b" "))
+    body = b"".join(lines[:at] + [lines[at]] + lines[at:])
+    return body + f"sha256 {hashlib.sha256(body).hexdigest()}\n".encode()
 
 
 def held_to(db, text):
@@ -469,10 +480,14 @@ def seals(entries):
         same(f"the seal of {db}", audit(db, "--seal"), (0, text.splitlines(), []))
         same(f"{db} is as it was sealed", held_to(db, text.encode()), (0, ["sealed: fine"], []))
     of_python, of_program = seal_of("python.db").encode(), seal_of("program.db").encode()
-    same("another office", held_to("python.db", of_program), (1, ["meter m1 differs from the seal", "meter m2 differs from the seal", "polls differ from the seal", "2 of 2 meters differ"], []))
+    same("another office", held_to("python.db", of_program), (1, ["meter m1 differs from the seal", "meter m2 differs from the seal", "not in the file: register main at inv function 3 address 40094 scale 0", "polls differ from the seal", "2 of 2 meters differ"], []))
     enter("program.db", "12 manual main 25 0\n")
     enter("program.db", "13 void m1 2\n")
-    same("what came since is no difference", held_to("program.db", of_program), (0, ["sealed: fine"], []))
+    with sqlite3.connect("program.db") as books:
+        (low,), (high,) = (books.execute("SELECT moment FROM entries WHERE meter = 'm1' AND place = ?", [at]).fetchone() for at in (1, 4))
+    books.close()
+    void = f"void m1 2 changes energy from {civil('UTC0', low, '%Y-%m-%d')} to {civil('UTC0', high, '%Y-%m-%d')}"
+    same("what came since is no difference", held_to("program.db", of_program), (0, ["sealed: fine", void], []))
     whole("program.db")
     same("a void is sealed from then on", seal_of("program.db").count("void m1 "), 2)
     last, (day, quarter) = len(entries), (BEGIN + DAY * (DAYS - 1), 8_543 * (DAYS - 1) + 7)
@@ -481,12 +496,28 @@ def seals(entries):
     for what, commands in (
         ("another ceiling", ("UPDATE installations SET ceiling = ceiling + 1",)),
         ("another register", ("UPDATE installations SET register = 'spare'",)),
+        ("a void said to be later", ("UPDATE voids SET moment = moment + 1",)),
         ("a reading is said to be by hand", (f"UPDATE entries SET kind = 3 WHERE place = {last}",)),
         ("what a voided reading showed", ("UPDATE entries SET raw = raw + 1 WHERE place = 5",)),
         ("a reading fewer, and all that followed from it", fewer),
     ):
         same(f"{what}: fine", changed(*commands)[0], 0)
         same(f"{what}: not as it was sealed", held_to("changed.db", of_python), (1, ["meter m1 differs from the seal", "1 of 1 meter differs"], []))
+    register = "register main at inv function 3 address 40094 scale -3"
+    for what, line, command in (
+        ("another unit", "device inv unit 1", "UPDATE devices SET unit = 2"),
+        ("another function", register, "UPDATE registers SET function = 4 WHERE name = 'main'"),
+        ("another address", register, "UPDATE registers SET address = 40096 WHERE name = 'main'"),
+        ("another scale", register, "UPDATE registers SET scale = -2 WHERE name = 'main'"),
+        ("a scale that is read", register, "UPDATE registers SET scale_kind = 1, scale = 40096 WHERE name = 'main'"),
+        ("a register fewer", "register spare at inv function 3 address 40194 scale -3", "DELETE FROM registers WHERE name = 'spare'"),
+    ):
+        same(f"{what}: fine", changed(command)[0], 0)
+        same(f"{what}: not as it was sealed", held_to("changed.db", of_python), (1, [f"not in the file: {line}", "zone, devices or registers differ"], []))
+    same("another zone: fine", changed("UPDATE meta SET zone = 'UTC1'")[0], 0)
+    sealed_months, months = (dict(line.split()[2:] for line in seal_of(db).splitlines() if line.startswith("month ")) for db in ("python.db", "changed.db"))
+    moved = [f"month m1 {it} was {energy(int(was))}, is {energy(int(months[it]))}" for it, was in sealed_months.items()]
+    same("another zone: not as it was sealed", held_to("changed.db", of_python), (1, ["not in the file: zone UTC0", "zone, devices or registers differ", *moved], []))
     pending = len(entries)  # (Python's last poll, which has no outcome)
     for what, commands in (
         ("a poll of another unit", ("UPDATE polls SET unit = unit + 1 WHERE poll = 2",)),
@@ -501,15 +532,16 @@ def seals(entries):
     last_poll = f"FROM polls WHERE poll = {pending}"
     for what, commands in (
         ("the outcome of a poll that was pending", (f"INSERT INTO outcomes SELECT poll, started, 3, 0 {last_poll}",)),
+        ("one more device", ("INSERT INTO devices VALUES (2, 'old', 7, 5, 1)",)),
         ("one more poll", (f"INSERT INTO polls SELECT poll + 1, device, unit, started, tid, function, address, count {last_poll}",)),
     ):
         same(f"{what}: fine", changed(*commands)[0], 0)
         same(f"{what} is no difference", held_to("changed.db", of_python), (0, ["sealed: fine"], []))
     same("tables that aren't fine have no seal", (changed("UPDATE installations SET total = total + 1")[1:], audit("changed.db", "--seal")[0]), (audit("changed.db", "--seal")[1:], 1))
     same("nor are they held to one", held_to("changed.db", of_python)[1][-1], "1 difference")
-    no_seal = ["error: invalid value 'seal.txt' for '--against <SEAL>': not a seal that sunreg audit --seal printed"]
+    no_seal = ["error: invalid value 'seal.txt' for '--against <SEAL>': not a seal of this version: make a new one with sunreg audit --seal"]
     for what, text in (("nothing", b""), ("a line fewer", of_python.split(b"\n", 1)[1]), ("the last line fewer", of_python.rsplit(b"sha256", 1)[0]), ("a line behind it", of_python + b"\n"),
-                       ("another number", of_python.replace(b" ceiling 1", b" ceiling 2")), ("one of an earlier program", of_python.replace(b"seal 2", b"seal 1", 1)), ("a pending poll fewer", of_python.replace(b"pending ", b"", 1)), ("no text", b"\xff" + of_python), ("ends of another kind", of_python.replace(b"\n", b"\r\n"))):
+                       ("another number", of_python.replace(b" ceiling 1", b" ceiling 2")), ("one of an earlier program", of_python.replace(b"seal 3", b"seal 2", 1)), ("a line twice", twice(of_python, b"device")), ("a void twice", twice(of_python, b"void")), ("a pending poll fewer", of_python.replace(b"pending ", b"", 1)), ("no text", b"\xff" + of_python), ("ends of another kind", of_python.replace(b"\n", b"\r\n"))):
         same(f"{what} is no seal", held_to("python.db", text), (2, [], no_seal))
     same("a seal that isn't there", audit("python.db", "--against", "none.txt"), (3, [], ["failed", "sunreg: none.txt: can't read the seal file: check its name and permissions"]))
     same("both at once", audit("python.db", "--seal", "--against", "seal.txt")[:2], (2, []))

@@ -54,6 +54,7 @@ CHECKS = [
     Check("report", "report.sh", 423, 480, "sqlite3 tzdata"),
     Check("commands", "commands.py PROGRAM", 92, 240, "faketime sqlite3"),
     Check("audit", "SEED=1 CHANGES=200 JOINS=40 audit.sh", 465, 240, "sqlite3"),
+    Check("later_voids", "later_voids.py PROGRAM", 21, 60, "sqlite3"),
     Check("backup", "backup.sh", 80, 240, "curl sqlite3"),
     Check("carry", "carry.sh", 71, 600, "curl sqlite3"),
     Check("sqlite3", "sqlite3.sh", 41, 120, "curl sqlite3"),

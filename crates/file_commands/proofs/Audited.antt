@@ -17,6 +17,7 @@ use Rattle.table_audit.specs.Texts.{with_findings}
 use Rattle.table_audit.specs.declared.findings.Findings.{Findings}
 use Rattle.table_audit.proofs.Looking.{holds_on}
 use Rattle.table_seals.specs.Checking.{IsAsSealed, ReportsTables as ReportsChecked}
+use Rattle.table_seals.specs.Reading.{IsSealText}
 use Rattle.table_seals.specs.Sealed.{SealedTables}
 use Rattle.table_seals.specs.Texts.{seal_text, checked_text}
 use Rattle.table_seals.specs.declared.checks.Checked.{Checked}
@@ -90,7 +91,7 @@ differences_printed seal content findings had holds (Err fault) reported some ve
 -- If an audit compared a database file with a seal (digests of the records of a file at one time),
 -- it printed the result of the comparison, unless it failed.
 pub checked_printed : (content : Content) (text : List ℕ) (checked : Checked) (had holds : Option (List ℕ)) (r : Result Bool AuditFault)
-    → ((seal : SealedTables) × (text ≡ seal_text seal) × ReportsChecked seal content checked)
+    → ((seal : SealedTables) × IsSealText seal text × ReportsChecked seal content checked)
     → IfOk r (λ fine. IsTrue fine ↔ IsAsSealed checked) → OnOk r (Appends had holds (checked_text checked))
     → IfOk r (PrintsChecked content text had holds)
 checked_printed content text checked had holds (Ok fine) seal verdict printed =

@@ -13,6 +13,7 @@ use Rattle.table_audit.specs.JsonTexts.{with_json}
 use Rattle.table_audit.specs.Texts.{with_findings}
 use Rattle.table_audit.specs.declared.findings.Findings.{Findings}
 use Rattle.table_seals.specs.Checking.{IsAsSealed, ReportsTables as ReportsChecked}
+use Rattle.table_seals.specs.Reading.{IsSealText}
 use Rattle.table_seals.specs.Sealed.{SealedTables, sealed_tables_of}
 use Rattle.table_seals.specs.Sealing.{SealsTables}
 use Rattle.table_seals.specs.Texts.{seal_text, checked_text}
@@ -69,7 +70,7 @@ pub record PrintsSeal (content : Content) (had holds : Option (List ℕ)) (fine 
 pub record PrintsChecked (content : Content) (text : List ℕ) (had holds : Option (List ℕ))
     (fine : Bool) : Type 0 where
   pub seal : SealedTables
-  pub is_text : text ≡ seal_text seal
+  pub is_text : IsSealText seal text
   pub checked : Checked
   pub reported : ReportsChecked seal content checked
   pub printed : Appends had holds (checked_text checked)

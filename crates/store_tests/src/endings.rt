@@ -33,7 +33,7 @@ fn endings_have_their_statuses_and_texts(rt: HostRuntime) {
         (
             Ending::NoSeal("seal.txt"),
             2,
-            "error: invalid value 'seal.txt' for '--against <SEAL>': not a seal that sunreg audit --seal printed\n",
+            "error: invalid value 'seal.txt' for '--against <SEAL>': not a seal of this version: make a new one with sunreg audit --seal\n",
         ),
         (
             Ending::Twice("o.db"),

@@ -9,9 +9,9 @@ ghost use Rattle.store_tables.specs.declared.layouts.Layout.{Layout as TheLayout
 ghost use Rattle.store_tables.specs.Layouts.{IsNamedAs};
 ghost use Rattle.table_audit.specs.Looking.{HoldsRows, OnlyLooks};
 ghost use Rattle.table_seals.specs.Checking.{IsAsSealed, ReportsTables};
-ghost use Rattle.table_seals.specs.Reading.{AreTablesSealable};
+ghost use Rattle.table_seals.specs.Reading.{AreTablesSealable, IsSealText};
 ghost use Rattle.table_seals.specs.Sealed.{SealedTables, sealed_tables_of};
-ghost use Rattle.table_seals.specs.Sealing.{SealsTables, CannotBeSealed};
+ghost use Rattle.table_seals.specs.Sealing.{CannotBeSealed, HasNoZone, SealsTables};
 ghost use Rattle.table_seals.specs.Texts.{seal_text, checked_text};
 
 use crate::audits::{AuditFault, check_ours, fault_of};
@@ -62,8 +62,8 @@ pub fn write_seal<W: Write>(alloc: Global, seal: &Seal, output: &mut W) -> Resul
 }
 
 /// Checks the metering records in a database against a seal (digests of earlier records), which is
-/// given as its text `text`. Returns the meters that don't match the seal, and whether the polls
-/// differ from the seal. Writes nothing to the database.
+/// given as its text `text`. Returns what doesn't match the seal, and what later voids
+/// (cancellations of entries) changed. Writes nothing to the database.
 pub fn check_stored_seal<S: Alter>(
     alloc: Global,
     connection: &mut Connection<S>,
@@ -75,19 +75,23 @@ pub fn check_stored_seal<S: Alter>(
         → OnlyLooks S.Store connection.old connection.new }
     ensures reports { HasCleanDisk (state S.Store connection.new) → (content : Content)
         → HoldsRows S.Store connection.old content
-        → IfOk result (λ checked. (seal : SealedTables) × (text.now ≡ seal_text seal)
+        → IfOk result (λ checked. (seal : SealedTables) × IsSealText seal text.now
         × ReportsTables seal content checked) }
+    ensures unmarked { HasCleanDisk (state S.Store connection.new) → (content : Content)
+        → HoldsRows S.Store connection.old content → result ≡ Err AuditFault.Mark
+        → HasNoZone content }
     ensures no_seal { (seal : SealedTables) → AreTablesSealable seal
         → text.now ≡ seal_text seal → result ≢ Err AuditFault.NoSeal }
 {
     check_ours(connection)?;
     let seal = match read_seal(alloc, text) {
         Ok(seal) => seal,
-        Err(NoSeal::Other) => return Err(AuditFault::NoSeal),
+        Err(NoSeal::Other | NoSeal::Earlier) => return Err(AuditFault::NoSeal),
         Err(NoSeal::Memory) => return Err(AuditFault::Memory),
     };
     match check_seal(alloc, connection, &seal) {
-        Ok(checked) => Ok(checked),
+        Ok(Some(checked)) => Ok(checked),
+        Ok(None) => Err(AuditFault::Mark),
         Err(fault) => Err(fault_of(fault)),
     }
 }

@@ -1,6 +1,6 @@
 -- Lemmas on the ordered set of the terms (name, register, maximum power) of all rows of
 -- `installations`.
-use Rattle.std.proofs.Common.{◌≡◌, ◌↔◌, ◌⊎◌, ◌&&◌, ℕ, ◌+◌, ◌-◌, ◌<◌, Bool, true, false, cond, List, [], ◌∷◌, ◌++◌, take, length, get_or, Some, None, inl, inr, refl, sym, ap, subst, ◌∙◌, length-append, string_bytes, arith}
+use Rattle.std.proofs.Common.{◌≡◌, ◌↔◌, ◌⊎◌, ℕ, ◌+◌, ◌-◌, ◌<◌, Bool, true, false, cond, List, [], ◌∷◌, ◌++◌, take, length, get_or, Some, None, inl, inr, refl, sym, ap, subst, ◌∙◌, length-append, string_bytes, arith}
 use Rattle.std.specs.Prelude.{IsTrue, Any}
 use Rattle.std.specs.BTreeSet.{BTreeSet}
 use Rattle.std.specs.Cmp.Lexicographic.{slice_cmp}
@@ -13,14 +13,17 @@ use Rattle.std.proofs.lemmas.List.{take_more, get_or_append_left, get_or-append_
 use Rattle.std.proofs.lemmas.List.Quantifiers.{Any-push}
 use Rattle.std.specs.List.{list_any}
 use Rattle.std.proofs.lemmas.Map.Lookups.{exact_bytes, exact_unsigned}
+use Rattle.interval_core.specs.declared.zone.Zone.{Zone}
 use Rattle.sqlite.specs.Order.{Row}
 use Rattle.table_audit.specs.declared.rows.MeterRows.{MeterRows}
-use Rattle.table_seals.specs.Checking.{HasSealed}
-use Rattle.table_seals.specs.Installed.{AddsTerms, AddsTermsOf, AreSame, AreTermsOf, KeepsAt, ReportsInstalled, has_terms, terms_cmp}
+use Rattle.table_seals.specs.Checking.{HasSealedAs}
+use Rattle.table_seals.specs.Installed.{AddsTerms, AddsTermsOf, AreSame, AreTermsOf, ChecksRows, ReportsInstalled, has_terms, terms_cmp}
+use Rattle.table_seals.specs.Notes.{PrintsNotes}
 use Rattle.table_seals.specs.Sealed.{Sealed}
-use Rattle.table_seals.specs.Tables.{HasTerms, TermsAreRead}
+use Rattle.table_seals.specs.Tables.{HasRead, HasTerms, RowsAreRead, TermsAreRead}
+use Rattle.table_seals.specs.declared.tables.ReadRows.{ReadRows}
 use Rattle.table_seals.specs.declared.tables.Terms.{Terms}
-use Rattle.table_seals.proofs.Read.{same_terms, terms_there}
+use Rattle.table_seals.proofs.Read.{same_sealed, same_terms, terms_there}
 
 -- Lemmas that the terms of two meters compare as equal if and only if their names, accounting
 -- registers (energy counters) and maximum powers are equal.
@@ -48,12 +51,16 @@ same_by_order a b h =
     let meters : Ordering = slice_cmp nat_cmp (string_bytes a.meter) (string_bytes b.meter) in
     let registers : Ordering = slice_cmp nat_cmp (string_bytes a.register) (string_bytes b.register) in
     let ceilings : Ordering = nat_cmp a.ceiling b.ceiling in
-    let all : ordering_then meters (ordering_then registers ceilings) ≡ Equal = is_equal _ h in
-    let rest : ordering_then registers ceilings ≡ Equal = next_equal meters (ordering_then registers ceilings) all in
+    let places : Ordering = nat_cmp a.place b.place in
+    let numbers : Ordering = ordering_then ceilings places in
+    let all : ordering_then meters (ordering_then registers numbers) ≡ Equal = is_equal _ h in
+    let rest : ordering_then registers numbers ≡ Equal = next_equal meters (ordering_then registers numbers) all in
+    let last : numbers ≡ Equal = next_equal registers numbers rest in
     record {
-      meter = exact_bytes _ _ (first_equal meters (ordering_then registers ceilings) all);
-      register = exact_bytes _ _ (first_equal registers ceilings rest);
-      ceiling = exact_unsigned _ _ (next_equal registers ceilings rest);
+      meter = exact_bytes _ _ (first_equal meters (ordering_then registers numbers) all);
+      register = exact_bytes _ _ (first_equal registers numbers rest);
+      ceiling = exact_unsigned _ _ (first_equal ceilings places last);
+      place = exact_unsigned _ _ (next_equal ceilings places last);
     }
 
 tied_bytes : (xs ys : List ℕ) → xs ≡ ys → slice_cmp nat_cmp xs ys ≡ Equal
@@ -67,9 +74,12 @@ order_of_same a b same =
     let meters : Ordering = slice_cmp nat_cmp (string_bytes a.meter) (string_bytes b.meter) in
     let registers : Ordering = slice_cmp nat_cmp (string_bytes a.register) (string_bytes b.register) in
     let ceilings : Ordering = nat_cmp a.ceiling b.ceiling in
-    let all : ordering_then meters (ordering_then registers ceilings) ≡ Equal =
-    both_equal meters (ordering_then registers ceilings) (tied_bytes _ _ same.meter)
-    (both_equal registers ceilings (tied_bytes _ _ same.register) (tied_numbers _ _ same.ceiling)) in
+    let places : Ordering = nat_cmp a.place b.place in
+    let numbers : Ordering = ordering_then ceilings places in
+    let all : ordering_then meters (ordering_then registers numbers) ≡ Equal =
+    both_equal meters (ordering_then registers numbers) (tied_bytes _ _ same.meter)
+    (both_equal registers numbers (tied_bytes _ _ same.register)
+    (both_equal ceilings places (tied_numbers _ _ same.ceiling) (tied_numbers _ _ same.place))) in
     ap is_eq all
 
 -- Lemmas: if a meter's terms (name, register, maximum power) are added to the ordered set of all
@@ -124,14 +134,14 @@ pub with_terms : (row : Row) (terms : Terms) (old new : BTreeSet Terms) → Term
 with_terms row terms old new read adds rows are other =
     let Reads : Row → Type 0 = λ r. TermsAreRead r (Some other) in (
       λ has. elim ((adds other).0 has) [
-        | inl same ↦ Any-push Reads rows row (terms_there row _ _ _ _ _ _ read same.meter same.register same.ceiling)
+        | inl same ↦ Any-push Reads rows row (terms_there row _ _ _ _ _ _ _ _ read same.place same.meter same.register same.ceiling)
         | inr before ↦ any_more Reads rows row ((are other).0 before)
       ],
       λ any. (adds other).1 (elim (any_of_more Reads rows row any) [
         | inl before ↦ inr ((are other).1 before)
         | inr reads ↦
-            let same = same_terms row _ _ _ _ _ _ read reads in
-            inl (record { meter = same.meter_is; register = same.register_is; ceiling = same.ceiling_is })
+            let same = same_terms row _ _ _ _ _ _ _ _ read reads in
+            inl (record { meter = same.meter_is; register = same.register_is; ceiling = same.ceiling_is; place = same.place_is })
       ]),
     )
 
@@ -141,7 +151,7 @@ without_terms row known none rows are other =
       λ has. any_more Reads rows row ((are other).0 has),
       λ any. elim (any_of_more Reads rows row any) [
         | inl before ↦ (are other).1 before
-        | inr reads ↦ absurd (none _ _ _ reads)
+        | inr reads ↦ absurd (none _ _ _ _ reads)
       ],
     )
 
@@ -165,20 +175,41 @@ any_as : {X : Type 0} (P Q : X → Type 0) (xs : List X) → ((x : X) → P x �
 any_as P Q xs so h = (h.0, h.1, h.2, h.3, so h.1 h.4)
 
 pub installed_by : (known : BTreeSet Terms) (terms : Terms) (seal : Sealed) (there : Bool) → there ≡ has_terms known terms
-    → string_bytes terms.meter ≡ seal.meter → string_bytes terms.register ≡ seal.register → terms.ceiling ≡ seal.ceiling
+    → string_bytes terms.meter ≡ seal.meter → string_bytes terms.register ≡ seal.register → terms.ceiling ≡ seal.ceiling → terms.place ≡ seal.place
     → ReportsInstalled known seal there
-installed_by known terms seal there is meter register ceiling installed are =
+installed_by known terms seal there is meter register ceiling place installed are =
     let Reads : Row → Type 0 = λ row. TermsAreRead row (Some terms) in
-    let Has : Row → Type 0 = λ row. HasTerms row seal.meter seal.register seal.ceiling in (
-      λ t. any_as Reads Has installed (λ row h. terms_there row _ _ _ _ _ _ h meter register ceiling) ((are terms).0 (sym is ∙ t)),
-      λ any. is ∙ (are terms).1 (any_as Has Reads installed (λ row h. terms_there row _ _ _ _ _ _ h (sym meter) (sym register) (sym ceiling)) any),
+    let Has : Row → Type 0 = λ row. HasTerms row seal.place seal.meter seal.register seal.ceiling in (
+      λ t. any_as Reads Has installed (λ row h. terms_there row _ _ _ _ _ _ _ _ h place meter register ceiling) ((are terms).0 (sym is ∙ t)),
+      λ any. is ∙ (are terms).1 (any_as Has Reads installed (λ row h. terms_there row _ _ _ _ _ _ _ _ h (sym place) (sym meter) (sym register) (sym ceiling)) any),
     )
 
 -- Lemmas on comparing a meter with its seal (a digest of its earlier entries): its rows match the
 -- seal, and the set of all meters' terms has the sealed terms.
 
-pub keeps_at : (known : BTreeSet Terms) (rows : MeterRows) (seal : Sealed) (there has : Bool) → ReportsInstalled known seal there
-    → (IsTrue has ↔ HasSealed rows seal) → KeepsAt known rows seal (there && has)
-keeps_at known rows seal true true there has installed are = (λ t. ((there installed are).0 refl, has.0 refl), λ kept. refl)
-keeps_at known rows seal true false there has installed are = (λ t. absurd (cc t), λ kept. has.1 kept.1)
-keeps_at known rows seal false other there has installed are = (λ t. absurd (cc t), λ kept. (there installed are).1 kept.0)
+pub not_installed : (known : BTreeSet Terms) (zone : Zone) (rows : MeterRows) (seal : Sealed) → ReportsInstalled known seal false
+    → ChecksRows known zone rows seal (record { kept = false; notes = [] })
+not_installed known zone rows seal there installed are = record { reported = (λ t. absurd (cc t), λ kept. (there installed are).1 kept.0); noted = refl }
+
+pub not_read : (known : BTreeSet Terms) (zone : Zone) (rows : MeterRows) (seal : Sealed) → RowsAreRead rows None
+    → ChecksRows known zone rows seal (record { kept = false; notes = [] })
+not_read known zone rows seal none installed are = record {
+  reported = (λ t. absurd (cc t), λ kept. absurd (none kept.1.read.range kept.1.read.voids.items kept.1.read.entries.items kept.1.is_read));
+  noted = refl;
+}
+
+pub not_sealed : (known : BTreeSet Terms) (zone : Zone) (rows : MeterRows) (read : ReadRows) (seal : Sealed)
+    → HasRead rows read.range read.voids.items read.entries.items → (HasSealedAs read seal → IsTrue false)
+    → ChecksRows known zone rows seal (record { kept = false; notes = [] })
+not_sealed known zone rows read seal is fails installed are = record {
+  reported = (λ t. absurd (cc t), λ kept. fails (same_sealed rows read kept.1.read seal is kept.1.is_read kept.1.has));
+  noted = refl;
+}
+
+pub is_sealed : (known : BTreeSet Terms) (zone : Zone) (rows : MeterRows) (read : ReadRows) (seal : Sealed) (notes : List ℕ)
+    → ReportsInstalled known seal true → HasRead rows read.range read.voids.items read.entries.items → HasSealedAs read seal
+    → PrintsNotes zone rows seal notes → ChecksRows known zone rows seal (record { kept = true; notes = notes })
+is_sealed known zone rows read seal notes there is has noted installed are = record {
+  reported = (λ t. ((there installed are).0 refl, record { read = read; is_read = is; has = has }), λ kept. refl);
+  noted = noted;
+}

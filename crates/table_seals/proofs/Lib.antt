@@ -11,8 +11,13 @@ pub mod PollRuns
 pub mod PollFound
 pub mod PollsStaying
 pub mod SealedTables
+pub mod MonthSums
 pub mod FollowingPolls
 pub mod FiledMeters
+pub mod Repeats
 pub mod Joined
 pub mod JoinedFiles
 pub mod JoinedTables
+pub mod Noted
+mod NoteExamples
+pub mod ZoneLemmas

@@ -9,7 +9,7 @@ use Rattle.store_tables.specs.declared.faults.RowFault.{RowFault}
 use Rattle.table_seals.specs.declared.seals.PollSeal.{PollSeal}
 use Rattle.table_seals.specs.PollReading.{ReadPoll}
 use Rattle.table_seals.specs.PollSealing.{ReadsRuns, ReadsUpTo, ArePollsSealed, SealsPolls, KeepsPolls, ReportsPolls, AreDigested, AreAsSealed, DigestsPolls}
-use Rattle.table_seals.specs.Sealed.{Sealed, SealedPolls, SealedTables}
+use Rattle.table_seals.specs.Sealed.{SealedPolls}
 use Rattle.sqlite.specs.Store.{Ghosts}
 use Rattle.sqlite.specs.Held.{Held}
 use Rattle.store_tables.specs.Columns.{first_in}
@@ -82,21 +82,6 @@ reports_kept content found sealed differ reported h =
       reads = h.reads;
       reported = (λ is. kept.0 (reported.0 is), λ keeps. reported.1 (kept.1 keeps));
     }
-
--- Lemmas that the seal (digest) of the polls can be parsed from its written text.
-
-pub same_polls : (count : ℕ) (digest pending : List ℕ) (seal : SealedPolls) → count ≡ seal.count → digest ≡ seal.digest → pending ≡ seal.pending
-    → (let read : SealedPolls = record { count = count; digest = digest; pending = pending } in read) ≡ seal
-same_polls count digest pending seal c d p =
-    ap (λ (n : ℕ). let read : SealedPolls = record { count = n; digest = digest; pending = pending } in read) c
-    ∙ ap (λ (x : List ℕ). let read : SealedPolls = record { count = seal.count; digest = x; pending = pending } in read) d
-    ∙ ap (λ (x : List ℕ). let read : SealedPolls = record { count = seal.count; digest = seal.digest; pending = x } in read) p
-
-pub same_tables : (meters : List Sealed) (polls : SealedPolls) (seal : SealedTables) → meters ≡ seal.meters → polls ≡ seal.polls
-    → (let read : SealedTables = record { meters = meters; polls = polls } in read) ≡ seal
-same_tables meters polls seal m p =
-    ap (λ (x : List Sealed). let read : SealedTables = record { meters = x; polls = polls } in read) m
-    ∙ ap (λ (x : SealedPolls). let read : SealedTables = record { meters = seal.meters; polls = x } in read) p
 
 -- If a function digests all polls in the tables with all their present outcomes, then its result is
 -- the seal of the polls.

@@ -4,17 +4,16 @@ use Rattle.std.proofs.Common.{◌≡◌, ℕ, suc, ◌+◌, ◌<◌, ◌≤◌, 
 use Rattle.std.specs.List.{AllByRecursion}
 use Rattle.std.proofs.lemmas.Bool.Decides.{nat_tests}
 use Rattle.std.proofs.lemmas.List.Folds.{list_any-append}
-use Rattle.table_audit.specs.Reading.{is_named}
 use Rattle.table_seals.specs.declared.poll_values.Ending.{Ending}
 use Rattle.table_seals.specs.declared.poll_values.PollNumbers.{PollNumbers}
 use Rattle.table_seals.specs.Laws.{IsLater, AreLater, PollsStay}
 use Rattle.table_seals.specs.PollReading.{ReadPoll}
-use Rattle.table_seals.specs.PollTexts.{poll_line, ending_text, unless_pending, poll_text, polls_text, text_then, polls_text_then, unless_ended, pending_of, pending_among}
+use Rattle.table_seals.specs.PollTexts.{is_listed, poll_line, ending_text, unless_pending, poll_text, polls_text, text_then, polls_text_then, unless_ended, pending_of, pending_among}
 use Rattle.table_seals.proofs.PollNumbers.{AreNumbered, numbered, is_up_to, is_beyond}
 
 -- Lemmas on which poll numbers the list of pending polls (polls without an outcome) contains.
 
-named_more : (xs ys : List ℕ) (n : ℕ) → is_named (xs ++ ys) n ≡ (is_named xs n || is_named ys n)
+named_more : (xs ys : List ℕ) (n : ℕ) → is_listed (xs ++ ys) n ≡ (is_listed xs n || is_listed ys n)
 named_more xs ys n = list_any-append (λ v. v == n) xs ys
 
 or_false : (a b : Bool) → a ≡ false → b ≡ false → (a || b) ≡ false
@@ -38,14 +37,14 @@ same m n is = grind (arith, nat_tests)
 
 -- If polls are numbered from `k`, then the numbers of the pending polls among them do not include a
 -- number below `k`.
-not_among : (k n : ℕ) (polls : List ReadPoll) → AreNumbered k polls → n < k → is_named (pending_among polls) n ≡ false
+not_among : (k n : ℕ) (polls : List ReadPoll) → AreNumbered k polls → n < k → is_listed (pending_among polls) n ≡ false
 not_among k n [] h lt = refl
 not_among k n (poll ∷ polls) h lt =
     named_more (pending_of poll) (pending_among polls) n
-    ∙ or_false (is_named (pending_of poll) n) (is_named (pending_among polls) n) (first poll.ending)
+    ∙ or_false (is_listed (pending_of poll) n) (is_listed (pending_among polls) n) (first poll.ending)
     (not_among (suc k) n polls h.1 (omega (arith, lt)))
   where
-    first : (ending : Option Ending) → is_named (unless_ended poll.numbers.number ending) n ≡ false
+    first : (ending : Option Ending) → is_listed (unless_ended poll.numbers.number ending) n ≡ false
     first None = let is = h.0 in or_false (poll.numbers.number == n) false (other poll.numbers.number n (omega (arith, is, lt))) refl
     first (Some ending) = refl
 
@@ -56,31 +55,31 @@ is_pending (Some ending) = false
 -- States that the list `pending` contains the number of the given poll if and only if this poll has
 -- no outcome.
 abbrev Names : List ℕ → ReadPoll → Type 0
-Names pending poll = is_named pending poll.numbers.number ≡ is_pending poll.ending
+Names pending poll = is_listed pending poll.numbers.number ≡ is_pending poll.ending
 
 -- States that the list `front` of poll numbers contains no number that is `k` or greater.
 abbrev NoneFrom : ℕ → List ℕ → Type 0
-NoneFrom k front = (n : ℕ) → k ≤ n → is_named front n ≡ false
+NoneFrom k front = (n : ℕ) → k ≤ n → is_listed front n ≡ false
 
 front_more : (k : ℕ) (front : List ℕ) (poll : ReadPoll) → poll.numbers.number ≡ k → NoneFrom k front → NoneFrom (suc k) (front ++ pending_of poll)
 front_more k front poll is none n le =
     named_more front (pending_of poll) n
-    ∙ or_false (is_named front n) (is_named (pending_of poll) n) (none n (omega (arith, le))) (last poll.ending)
+    ∙ or_false (is_listed front n) (is_listed (pending_of poll) n) (none n (omega (arith, le))) (last poll.ending)
   where
-    last : (ending : Option Ending) → is_named (unless_ended poll.numbers.number ending) n ≡ false
+    last : (ending : Option Ending) → is_listed (unless_ended poll.numbers.number ending) n ≡ false
     last None = or_false (poll.numbers.number == n) false (earlier poll.numbers.number n (omega (arith, is, le))) refl
     last (Some ending) = refl
 
 names_first : (k : ℕ) (front rest : List ℕ) (poll : ReadPoll) (ending : Option Ending) → poll.numbers.number ≡ k → NoneFrom k front
-    → is_named rest poll.numbers.number ≡ false
-    → is_named (front ++ (unless_ended poll.numbers.number ending ++ rest)) poll.numbers.number ≡ is_pending ending
+    → is_listed rest poll.numbers.number ≡ false
+    → is_listed (front ++ (unless_ended poll.numbers.number ending ++ rest)) poll.numbers.number ≡ is_pending ending
 names_first k front rest poll None is none after =
     let n : ℕ = poll.numbers.number in
     named_more front (n ∷ rest) n
-    ∙ or_right (is_named front n) (is_named (n ∷ rest) n) (or_left (n == n) (is_named rest n) (same n n refl))
+    ∙ or_right (is_listed front n) (is_listed (n ∷ rest) n) (or_left (n == n) (is_listed rest n) (same n n refl))
 names_first k front rest poll (Some ending) is none after =
     let n : ℕ = poll.numbers.number in
-    named_more front rest n ∙ or_false (is_named front n) (is_named rest n) (none n (omega (arith, is))) after
+    named_more front rest n ∙ or_false (is_listed front n) (is_listed rest n) (none n (omega (arith, is))) after
 
 names_all : (k : ℕ) (front : List ℕ) (polls : List ReadPoll) → AreNumbered k polls → NoneFrom k front
     → AllByRecursion (Names (front ++ pending_among polls)) polls
@@ -108,10 +107,10 @@ one_stays : (last : ℕ) (pending : List ℕ) (poll later : ReadPoll) → poll.n
 one_stays last pending poll later le names h =
     let number : later.numbers.number ≡ poll.numbers.number = ap (λ (p : PollNumbers). p.number) h.numbers in
     let there : nat_le later.numbers.number last ≡ true = is_up_to later.numbers.number last (omega (arith, number, le)) in
-    let named : is_named pending later.numbers.number ≡ is_pending poll.ending = ap (λ (n : ℕ). is_named pending n) number ∙ names in
-    ap (λ (b : Bool). if b then poll_line later.numbers later.device ++ ending_text (unless_pending (is_named pending later.numbers.number) later.ending) else []) there
+    let named : is_listed pending later.numbers.number ≡ is_pending poll.ending = ap (λ (n : ℕ). is_listed pending n) number ∙ names in
+    ap (λ (b : Bool). if b then poll_line later.numbers later.device ++ ending_text (unless_pending (is_listed pending later.numbers.number) later.ending) else []) there
     ∙ ap (λ (e : List ℕ). poll_line later.numbers later.device ++ e)
-    (ending_stays poll.ending later.ending (is_named pending later.numbers.number) named h.ending)
+    (ending_stays poll.ending later.ending (is_listed pending later.numbers.number) named h.ending)
     ∙ ap (λ (p : PollNumbers). poll_line p later.device ++ ending_text poll.ending) h.numbers
     ∙ ap (λ (d : List ℕ). poll_line poll.numbers d ++ ending_text poll.ending) h.device
 
@@ -120,7 +119,7 @@ beyond k last pending [] h lt = refl
 beyond k last pending (poll ∷ polls) h lt =
     let is = h.0 in
     let past : nat_le poll.numbers.number last ≡ false = is_beyond poll.numbers.number last (omega (arith, is, lt)) in
-    ap (λ (b : Bool). (if b then poll_line poll.numbers poll.device ++ ending_text (unless_pending (is_named pending poll.numbers.number) poll.ending) else [])
+    ap (λ (b : Bool). (if b then poll_line poll.numbers poll.device ++ ending_text (unless_pending (is_listed pending poll.numbers.number) poll.ending) else [])
     ++ polls_text_then last pending polls) past
     ∙ beyond (suc k) last pending polls h.1 (omega (arith, lt))
 

@@ -1,5 +1,5 @@
 -- Lemmas on parsing words, numbers and digests: where each of them ends in a text.
-use Rattle.std.proofs.Common.{◌≡◌, ℕ, zero, suc, ◌+◌, ◌/◌, ◌%◌, ◌<◌, ◌≤◌, ◌^◌, Bool, true, false, ◌&&◌, nat_lt, List, [], ◌∷◌, ◌++◌, length, drop, get_or, Option, Some, None, Ok, append_assoc, refl, sym, ap, subst, ◌∙◌, arith}
+use Rattle.std.proofs.Common.{◌≡◌, ℕ, zero, suc, ◌+◌, ◌/◌, ◌%◌, ◌<◌, ◌≤◌, ◌^◌, Bool, true, false, ◌&&◌, ◌==◌, not, nat_lt, List, [], ◌∷◌, ◌++◌, length, drop, get_or, Option, Some, None, Ok, append_assoc, refl, sym, ap, subst, ◌∙◌, arith}
 use Rattle.std.specs.Prelude.{decimal, IsSomeAnd, IfSome}
 use Rattle.std.specs.Borrow.{Bor}
 use Rattle.std.specs.List.{slice_index}
@@ -16,6 +16,7 @@ use Rattle.std.proofs.lemmas.Str.{IsUtf8-drop, IsCharBoundary-after_ascii}
 use Rattle.std.proofs.Math.Seq.{get_or-append_seam, drop-append-add}
 use Rattle.hex.specs.Hex.{encode_with, encode_lower, lower_digits, IsBytes, decode_sized}
 use Rattle.hex.proofs.HexLemmas.{decode_sized-encode_lower}
+use Rattle.table_seals.specs.Reading.{Begins, is_one_line}
 use Rattle.table_seals.specs.Tables.{is_word}
 
 both_true : (a b : Bool) → a && b ≡ true → (a ≡ true) × (b ≡ true)
@@ -92,6 +93,27 @@ pub parts_are : (before text rest : List ℕ) (end : ℕ) (r : Option (Bor (List
     → IfSome r (λ found. rest ≡ found.0.now ++ end ∷ found.1.now) → IfSome r (λ found. text ≡ (before ++ found.0.now) ++ end ∷ found.1.now)
 parts_are before text rest end None is h = tt
 parts_are before text rest end (Some x) is h = is ∙ ap (λ t. before ++ t) h ∙ sym (append_assoc before x.0.now (end ∷ x.1.now))
+
+-- If a text was parsed as a word after a prefix, then it begins with this prefix.
+pub begins_by_parts : (before text word following : List ℕ) (end : ℕ) → text ≡ (before ++ word) ++ end ∷ following → Begins before text
+begins_by_parts before text word following end is = (word ++ end ∷ following, is ∙ append_assoc before word (end ∷ following))
+
+-- Lemmas that parsing a line without a line end up to the next line end returns this line and the
+-- text after it.
+
+no_end : (line : List ℕ) → is_one_line line ≡ true → (i : ℕ) → i < length line → get_or line i 0 ≡ 10 → ⊥
+no_end [] h i lt e = absurd (omega (arith, lt))
+no_end (b ∷ bs) h zero lt e =
+    let both = both_true (not (b == 10)) (is_one_line bs) h in
+    let same : b ≡ 10 = e in
+    let bad : false ≡ true = ap (λ x. not (x == 10)) (sym same) ∙ both.0 in
+    absurd (cc)
+no_end (b ∷ bs) h (suc i) lt e = no_end bs (both_true (not (b == 10)) (is_one_line bs) h).1 i (omega (arith, lt)) e
+
+pub line_reads : (text line following : List ℕ) (r : Option (Bor (List ℕ) × Bor (List ℕ))) → IsSplitOnceResult 10 text r
+    → is_one_line line ≡ true → text ≡ line ++ 10 ∷ following → IsSomeAnd r (λ found. (found.0.now ≡ line) × (found.1.now ≡ following))
+line_reads text line following None h one is = split_after 10 text line following None h (omega arith) is (no_end line one)
+line_reads text line following (Some x) h one is = split_after 10 text line following (Some x) h (omega arith) is (no_end line one)
 
 -- Lemmas: if a text is valid UTF-8, the part of the text after a separator is valid UTF-8 too.
 

@@ -10,6 +10,7 @@ use Rattle.store_tables.specs.Content.{Content}
 use Rattle.store_tables.specs.Meters.Rows.{installation_in}
 use Rattle.store_tables.specs.declared.meters.rows.InstallationRow.{InstallationRow}
 use Rattle.table_audit.specs.declared.rows.MeterRows.{MeterRows}
+use Rattle.table_audit.specs.declared.rows.VoidRow.{VoidRow}
 use Rattle.table_audit.specs.Lawful.{last_in, last_shown}
 use Rattle.table_audit.specs.Showing.{ShowsInstallations}
 use Rattle.table_seals.specs.declared.filed.FiledMeter.{FiledMeter}
@@ -33,7 +34,7 @@ pub record IsFiledAs (row : Row) (rows : MeterRows) (filed : FiledMeter) : Type 
   pub installation_read : installation_in row ≡ Ok installation
   pub ceiling_is : filed.installed.ceiling ≡ installation.ceiling
   pub stands : filed.standing ≡ standing_in installation
-  pub voids : List ℕ
+  pub voids : List VoidRow
   pub opening : TableRow
   pub later : List TableRow
   pub read : HasRead rows filed.installed.range voids (opening ∷ later)

@@ -1,9 +1,12 @@
 pub mod Sealed
+pub mod Setup
 pub mod Texts
 pub mod Tables
 pub mod PollReading
 pub mod PollTexts
 pub mod PollSealing
+pub mod Months
+pub mod Notes
 pub mod Sealing
 pub mod Checking
 pub mod Installed

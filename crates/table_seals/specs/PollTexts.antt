@@ -1,7 +1,7 @@
 -- Defines the text of polls and outcomes. A seal has the SHA-256 digest of this text.
-use Rattle.std.specs.Prelude.{ℕ, Bool, true, false, nat_le, List, [], ◌∷◌, ◌++◌, flat_map, Option, Some, None, if◌then◌else◌}
+use Rattle.std.specs.Prelude.{ℕ, ◌==◌, Bool, true, false, nat_le, List, [], ◌∷◌, ◌++◌, flat_map, Option, Some, None, if◌then◌else◌}
 use Rattle.std.specs.Prelude.{codes, decimal}
-use Rattle.table_audit.specs.Reading.{is_named}
+use Rattle.std.specs.List.{list_any}
 use Rattle.table_seals.specs.declared.poll_values.Ending.{Ending}
 use Rattle.table_seals.specs.declared.poll_values.PollNumbers.{PollNumbers}
 use Rattle.table_seals.specs.PollReading.{ReadPoll}
@@ -38,13 +38,17 @@ abbrev pub unless_pending : Bool → Option Ending → Option Ending
 unless_pending true ending = None
 unless_pending false ending = ending
 
+-- True if the list `polls` has the poll number `poll`.
+abbrev pub is_listed : (polls : List ℕ) → (poll : ℕ) → Bool
+is_listed polls poll = list_any (λ number. number == poll) polls
+
 -- The text that a poll had when it was sealed (digested), when the polls in `pending` had no
 -- outcome. The text is empty if the poll's number is greater than `last`.
 abbrev pub text_then : (last : ℕ) → (pending : List ℕ) → ReadPoll → List ℕ
 text_then last pending poll =
     if nat_le poll.numbers.number last
     then poll_line poll.numbers poll.device
-    ++ ending_text (unless_pending (is_named pending poll.numbers.number) poll.ending)
+    ++ ending_text (unless_pending (is_listed pending poll.numbers.number) poll.ending)
     else []
 
 -- The text that all polls up to the number `last` had when they were sealed (digested), when the

@@ -1,6 +1,6 @@
-//! A set of the terms of all installed meters: name, accounting register (an energy counter) and
-//! ceiling (maximum power). The check of a seal (digests of earlier records) looks up the seal's
-//! meters in it.
+//! A set of the terms of all installed meters: index, name, accounting register (an energy counter)
+//! and ceiling (maximum power). The check of a seal (digests of earlier records) looks up the
+//! seal's meters in it.
 ghost use Rattle.std.specs.Prelude.{IfOk, OnOk};
 ghost use Rattle.table_seals.specs.Installed.{AddsTerms, AddsTermsOf, AreTermsOf, ReportsInstalled};
 ghost use Rattle.table_seals.specs.Sealed.{sealed_of};
@@ -51,6 +51,7 @@ pub(crate) fn is_installed(known: &BTreeSet<Terms>, seal: &MeterSeal) -> Result<
     ensures { IfOk result (ReportsInstalled known.now (sealed_of seal.now)) }
 {
     let terms = Terms {
+        place: seal.place,
         meter: seal.meter.clone()?,
         register: seal.register.clone()?,
         ceiling: seal.ceiling,

@@ -1,7 +1,6 @@
 //! Writes the text of polls and outcomes that a seal digests.
 ghost use Rattle.std.specs.Prelude.{◌≡◌, ◌≤◌, ◌++◌, ◌+◌, true, OnOk, IfOk, IfSome};
 ghost use Rattle.store_tables.specs.Limits.{greatest_place};
-ghost use Rattle.table_audit.specs.Reading as values;
 ghost use Rattle.table_seals.specs.PollReading.{poll_at};
 ghost use Rattle.table_seals.specs.PollReading as reading;
 ghost use Rattle.table_seals.specs.PollSealing.{PutsPoll, PutsRows};
@@ -53,8 +52,8 @@ fn write_ending(
 }
 
 /// Returns whether the list `polls` contains the poll number `poll`.
-fn is_named(polls: &[u64], poll: u64) -> bool
-    ensures { result ≡ values.is_named polls.now poll }
+fn is_listed(polls: &[u64], poll: u64) -> bool
+    ensures { result ≡ say.is_listed polls.now poll }
 {
     polls.iter().any(|number| *number == poll)
 }
@@ -77,7 +76,7 @@ fn write_then(
         return Ok(());
     }
     write_poll_line(text, poll, device)?;
-    write_ending(text, is_named(hidden, poll.number), ending)
+    write_ending(text, is_listed(hidden, poll.number), ending)
 }
 
 /// Appends the number of a poll to `pending`, if the poll has no outcome.

@@ -7,11 +7,12 @@ ghost use Rattle.sha2.specs.Sha256.{sha256};
 ghost use Rattle.table_seals.specs.Sealed.{sealed_of, sealed_polls_of, sealed_tables_of};
 ghost use Rattle.table_seals.specs.Texts as say;
 
-use crate::seals::{MeterSeal, PollSeal, Seal};
+use crate::seals::{MeterSeal, MonthSeal, PollSeal, Seal};
 use itoa::Buffer;
 use meter_journal::audit::{RowKind, TableRow};
 use sha2::{Digest, Sha256};
 use std::alloc::{AllocError, Global};
+use table_audit::VoidRow;
 
 // The following functions append parts of a seal's text. If memory runs out, the text is
 // incomplete.
@@ -108,10 +109,28 @@ pub(crate) fn digest_of(alloc: Global, entries: &[TableRow]) -> Result<[u8; 32],
 
 // The following functions append the text of a seal, which has digests of a file's records.
 
+fn write_setup_line(text: &mut Vec<u8>, line: &[u8]) -> Result<(), AllocError>
+    ensures { OnOk result (text.new.items ≡ text.old.items ++ say.setup_line line.now) }
+{
+    append_bytes(text, line)?;
+    append_bytes(text, b"\n")
+}
+
+fn write_setup(text: &mut Vec<u8>, setup: &[Vec<u8>]) -> Result<(), AllocError>
+    ensures { OnOk result
+        (text.new.items ≡ text.old.items ++ flat_map say.setup_line_of setup.now) }
+{
+    for line in setup {
+        write_setup_line(text, line.as_slice())?;
+    }
+    Ok(())
+}
+
 fn write_meter_line(alloc: Global, text: &mut Vec<u8>, seal: &MeterSeal) -> Result<(), AllocError>
     ensures { OnOk result (text.new.items ≡ text.old.items ++ say.meter_line (sealed_of seal.now)) }
 {
     write_word(text, b"meter ", seal.meter.as_bytes())?;
+    write_number(text, b" number ", seal.place)?;
     write_word(text, b" at ", seal.register.as_bytes())?;
     write_number(text, b" range ", seal.range)?;
     write_number(text, b" ceiling ", seal.ceiling)?;
@@ -121,20 +140,41 @@ fn write_meter_line(alloc: Global, text: &mut Vec<u8>, seal: &MeterSeal) -> Resu
     append_bytes(text, b"\n")
 }
 
-fn write_void(text: &mut Vec<u8>, meter: &[u8], place: u64) -> Result<(), AllocError>
-    ensures { OnOk result (text.new.items ≡ text.old.items ++ say.void_line meter.now place) }
+fn write_void(text: &mut Vec<u8>, meter: &[u8], void: VoidRow) -> Result<(), AllocError>
+    ensures { OnOk result (text.new.items ≡ text.old.items ++ say.void_line meter.now void) }
 {
     write_word(text, b"void ", meter)?;
-    write_number(text, b" ", place)?;
+    write_number(text, b" ", void.place)?;
+    write_number(text, b" at ", void.moment)?;
     append_bytes(text, b"\n")
 }
 
-fn write_voids(text: &mut Vec<u8>, meter: &[u8], voids: &[u64]) -> Result<(), AllocError>
+fn write_voids(text: &mut Vec<u8>, meter: &[u8], voids: &[VoidRow]) -> Result<(), AllocError>
     ensures { OnOk result
         (text.new.items ≡ text.old.items ++ flat_map (say.void_line meter.now) voids.now) }
 {
-    for place in voids {
-        write_void(text, meter, *place)?;
+    for void in voids {
+        write_void(text, meter, *void)?;
+    }
+    Ok(())
+}
+
+fn write_month(text: &mut Vec<u8>, meter: &[u8], month: &MonthSeal) -> Result<(), AllocError>
+    ensures { OnOk result
+        (text.new.items ≡ text.old.items ++ say.month_line_of meter.now month.now) }
+{
+    write_word(text, b"month ", meter)?;
+    write_word(text, b" ", month.month.as_slice())?;
+    write_number(text, b" ", month.mwh)?;
+    append_bytes(text, b"\n")
+}
+
+fn write_months(text: &mut Vec<u8>, meter: &[u8], months: &[MonthSeal]) -> Result<(), AllocError>
+    ensures { OnOk result
+        (text.new.items ≡ text.old.items ++ flat_map (say.month_line_of meter.now) months.now) }
+{
+    for month in months {
+        write_month(text, meter, month)?;
     }
     Ok(())
 }
@@ -143,7 +183,9 @@ fn append_meter(alloc: Global, text: &mut Vec<u8>, seal: &MeterSeal) -> Result<(
     ensures { OnOk result (text.new.items ≡ text.old.items ++ say.text_of seal.now) }
 {
     write_meter_line(alloc, text, seal)?;
-    write_voids(text, seal.meter.as_bytes(), seal.voids.as_slice())
+    write_voids(text, seal.meter.as_bytes(), seal.voids.as_slice())?;
+    write_months(text, seal.meter.as_bytes(), seal.months.as_slice())?;
+    Ok(())
 }
 
 fn write_meters(alloc: Global, text: &mut Vec<u8>, seals: &[MeterSeal]) -> Result<(), AllocError>
@@ -197,14 +239,15 @@ fn body(alloc: Global, seal: &Seal) -> Result<Vec<u8>, AllocError>
     ensures { IfOk result (λ text. text.items ≡ say.body_text (sealed_tables_of seal.now)) }
 {
     let mut text = Vec::new(alloc);
-    append_bytes(&mut text, b"seal 2\n")?;
+    append_bytes(&mut text, b"seal 3\n")?;
+    write_setup(&mut text, seal.setup.as_slice())?;
     write_meters(alloc, &mut text, seal.meters.as_slice())?;
     write_polls_part(alloc, &mut text, &seal.polls)?;
     Ok(text)
 }
 
-/// Returns the complete text of a seal. It has the lines of the meters, the lines of the polls, and
-/// a last line with the digest of all these lines.
+/// Returns the complete text of a seal. It has the lines of the time zone, the devices and the
+/// registers, and those of the meters and the polls. The last line has the digest of all these.
 pub fn append_seal(alloc: Global, seal: &Seal) -> Result<Vec<u8>, AllocError>
     ensures { IfOk result (λ text. text.items ≡ say.seal_text (sealed_tables_of seal.now)) }
 {

@@ -80,7 +80,7 @@ pub fn say<W: Write>(ending: &Ending<'_>, errors: &mut W)
         Ending::Backward => errors.write_all(b"error: '--till <DAY>' is before '--from <DAY>'\n"),
         Ending::NoSeal(file) => write!(
             errors,
-            "error: invalid value '{}' for '--against <SEAL>': not a seal that sunreg audit --seal printed\n",
+            "error: invalid value '{}' for '--against <SEAL>': not a seal of this version: make a new one with sunreg audit --seal\n",
             Named(*file)
         ),
         Ending::Twice(file) => write!(

@@ -1,45 +1,37 @@
-use Rattle.std.proofs.Common.{rules, ◌≡◌, List, map, length, Ok, Err, string_bytes, subst, arith}
-use Rattle.std.proofs.lemmas.List.{length-map}
-use Rattle.table_audit.proofs.Looking.{finds_then, passed_on, made}
-use Rattle.table_seals.specs.declared.checks.Checked.{Checked}
-use Rattle.table_seals.specs.declared.seals.MeterSeal.{MeterSeal}
-use Rattle.table_seals.specs.Checking.{ReportsMeters, ReportsTables}
-use Rattle.table_seals.specs.PollSealing.{ReportsPolls}
-use Rattle.table_seals.specs.Sealed.{sealed_of, sealed_polls_of, sealed_tables_of}
+use Rattle.std.proofs.Common.{rules, ◌≡◌, List, ℕ, Option, Ok, Err, None, Some, string_bytes, subst}
+use Rattle.interval_core.specs.Zone.{HasRule}
+use Rattle.table_audit.specs.FileMark.{FindsZone}
+use Rattle.table_audit.proofs.Looking.{finds_then, made, passed_on}
+use Rattle.table_seals.specs.Checking.{ReportsIfZone, ReportsInZone}
+use Rattle.table_seals.specs.Sealed.{SealedTables, sealed_tables_of}
+use Rattle.table_seals.proofs.ZoneLemmas.{is_zone, no_zone, reported_in}
 use Rattle.table_seals.proofs.checking.check_seal.Goals as goal
 
-pub check_polls-requires : goal.check_polls-requires
-check_polls-requires g c = c.in_ok-differing.ensures.looks.mode c.requires
+pub returns-in-None : goal.returns-in-None
+returns-in-None g c =
+    made g.S.Store c.args.conn.now c.zone_text.new.conn c.in_ok-text.field-0 None _ (ReportsIfZone (sealed_tables_of c.args.seal.now)) c.in_ok-text.ensures
+    (λ content found. no_zone content c.in_ok-text.field-0 c.in-None.is found)
 
-pub returns-in_err-differing : goal.returns-in_err-differing
-returns-in_err-differing g c =
-    passed_on g.S.Store c.args.conn.now c.check_meters.new.conn c.in_err-differing.field-0.0 c.from_residual.result _ _
-    c.in_err-differing.ensures c.from_residual.ensures.1
+pub returns-in-Ok : goal.returns-in-Ok
+returns-in-Ok g c =
+    let text : c.deref.result.now ≡ string_bytes c.in-Some.text = search rules in
+    let again : c.deref-in-Ok.result.now ≡ string_bytes c.in-Some.text = search rules in
+    let seal : SealedTables = sealed_tables_of c.args.seal.now in
+    made g.S.Store c.args.conn.now c.check_in_zone.new.conn c.in_ok-checked-in-Ok.checked (Some c.in_ok-checked-in-Ok.checked)
+    (λ content checked. ReportsIfZone seal content (Some checked)) (ReportsIfZone seal)
+    (finds_then g.S.Store c.args.conn.now c.zone_text.new.conn c.check_in_zone.new.conn c.in_ok-text.field-0 (Ok c.in_ok-checked-in-Ok.checked)
+    (λ content found. FindsZone content found) (ReportsInZone c.in-Ok.zone c.deref-in-Ok.result.now seal) (λ content checked. ReportsIfZone seal content (Some checked))
+    c.in_ok-text.ensures c.in_ok-checked-in-Ok.ensures
+    (λ content checked is reported. reported_in seal content (string_bytes c.in-Some.text) c.in-Ok.zone checked
+    (is_zone content c.in_ok-text.field-0 c.in-Some.text c.in-Some.is is)
+    (subst (λ (t : List ℕ). HasRule t c.in-Ok.zone) text c.in-Ok.ensures.value)
+    (subst (λ (t : List ℕ). ReportsInZone c.in-Ok.zone t seal content checked) again reported)))
+    (λ content reported. reported)
 
-pub returns-in_err-polls_differ : goal.returns-in_err-polls_differ
-returns-in_err-polls_differ g c =
-    passed_on g.S.Store c.args.conn.now c.check_polls.new.conn c.in_err-polls_differ.field-0.0 c.from_residual-in_err-polls_differ.result _ _
-    (finds_then g.S.Store c.args.conn.now c.check_meters.new.conn c.check_polls.new.conn c.in_ok-differing.differing (Err c.in_err-polls_differ.field-0.0) _ _
-    (λ content _. Unit {0})
-    c.in_ok-differing.ensures c.in_err-polls_differ.ensures (λ content _ meters polls. tt))
-    c.from_residual-in_err-polls_differ.ensures.1
-
-pub returns : goal.returns
-returns g c =
-    let checked : Checked = record { differing = c.in_ok-differing.differing; meters = c.len.result; polls_differ = c.in_ok-polls_differ.polls_differ } in
-    let long : length (map sealed_of c.args.seal.now.meters.items) ≡ length c.args.seal.now.meters.items = length-map c.args.seal.now.meters.items sealed_of in
-    let seals : c.as_slice.result.now ≡ c.args.seal.now.meters.items = search rules in
-    made g.S.Store c.args.conn.now c.check_polls.new.conn c.in_ok-polls_differ.polls_differ checked _ (ReportsTables (sealed_tables_of c.args.seal.now))
-    (finds_then g.S.Store c.args.conn.now c.check_meters.new.conn c.check_polls.new.conn c.in_ok-differing.differing (Ok c.in_ok-polls_differ.polls_differ) _ _
-    (λ content differ. ReportsMeters (map sealed_of c.args.seal.now.meters.items) content (map string_bytes c.in_ok-differing.differing.items)
-    × ReportsPolls (sealed_polls_of c.args.seal.now.polls) content differ)
-    c.in_ok-differing.ensures c.in_ok-polls_differ.ensures
-    (λ content differ meters polls. (
-      subst (λ (ss : List MeterSeal). ReportsMeters (map sealed_of ss) content (map string_bytes c.in_ok-differing.differing.items)) seals meters,
-      polls,
-    )))
-    (λ content both. record {
-      meters = both.0;
-      polls = both.1;
-      count = omega (arith, long);
-    })
+pub returns-in_err-checked-in-Ok : goal.returns-in_err-checked-in-Ok
+returns-in_err-checked-in-Ok g c =
+    passed_on g.S.Store c.args.conn.now c.check_in_zone.new.conn c.in_err-checked-in-Ok.field-0.0 c.from_residual-in_err-checked-in-Ok.result _ _
+    (finds_then g.S.Store c.args.conn.now c.zone_text.new.conn c.check_in_zone.new.conn c.in_ok-text.field-0 (Err c.in_err-checked-in-Ok.field-0.0)
+    (λ content found. FindsZone content found) (ReportsInZone c.in-Ok.zone c.deref-in-Ok.result.now (sealed_tables_of c.args.seal.now)) (λ content _. Unit {0})
+    c.in_ok-text.ensures c.in_err-checked-in-Ok.ensures (λ content _ is reported. tt))
+    c.from_residual-in_err-checked-in-Ok.ensures.1

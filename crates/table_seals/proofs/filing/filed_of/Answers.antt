@@ -20,7 +20,7 @@ returns-in_default-2 c = λ filed h.
 
 pub returns-in-None : goal.returns-in-None
 returns-in-None c = λ filed h.
-    subst (RowsAreRead c.args.rows.now) c.in-None.is c.in_ok-read.ensures filed.installed.range h.voids (h.opening ∷ h.later) h.read
+    subst (RowsAreRead c.args.rows.now) c.in-None.is c.in_ok-read.ensures.read filed.installed.range h.voids (h.opening ∷ h.later) h.read
 
 pub returns : goal.returns
 returns c =
@@ -39,7 +39,7 @@ returns c =
         opening = c.index.result.now;
         later = drop 1 entries;
         read = subst (HasRead c.args.rows.now c.in-Some-3.read.range c.in-Some-3.read.voids.items) first
-            (subst (RowsAreRead c.args.rows.now) c.in-Some-3.is c.in_ok-read.ensures);
+            (subst (RowsAreRead c.args.rows.now) c.in-Some-3.is c.in_ok-read.ensures.read);
         opened = c.shown_by.ensures;
       },
     )

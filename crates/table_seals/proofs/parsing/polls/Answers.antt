@@ -2,7 +2,7 @@ use Rattle.std.proofs.Common.{◌++◌}
 use Rattle.std.specs.List.{flat_map}
 use Rattle.table_seals.specs.Texts.{pending_line}
 use Rattle.table_seals.proofs.FollowingPolls.{polls_first, pending_then}
-use Rattle.table_seals.proofs.PollFound.{same_polls}
+use Rattle.table_seals.proofs.FollowingPolls.{same_polls}
 use Rattle.table_seals.proofs.parsing.polls.Goals as goal
 
 pub returns-in-None : goal.returns-in-None

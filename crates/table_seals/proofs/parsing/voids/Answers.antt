@@ -1,34 +1,30 @@
-use Rattle.std.proofs.Common.{◌++◌, List, ℕ, sym, ap, ◌∙◌, arith}
-use Rattle.std.proofs.lemmas.List.{append-nil}
-use Rattle.table_seals.proofs.Following.{no_more_voids, no_void_number, next_void, places_so_far}
+use Rattle.std.proofs.Common.{◌≡◌, [], ◌∷◌, ◌++◌, ap, ◌∙◌, arith}
+use Rattle.std.specs.Prelude.{codes}
+use Rattle.table_audit.specs.declared.rows.VoidRow.{VoidRow}
+use Rattle.table_seals.specs.Reading.{Begins, VoidFits}
+use Rattle.table_seals.specs.Texts.{void_line}
+use Rattle.table_seals.proofs.Following.{no_more, next_item, so_far, all_done}
 use Rattle.table_seals.proofs.parsing.voids.Goals as goal
 
-pub returns-in-None-clause-reads : goal.returns-in-None-clause-reads
-returns-in-None-clause-reads c =
-    λ meter places rest is.
-    let so_far = c.loop-after.invariant.reads meter places rest is in
-    no_void_number meter so_far.0 rest c.loop-after.rest.now c.in-Some.field-0-0.now c.in-Some.after.now c.in-Some.ensures.reads c.in-Some.ensures.parts
-    c.in-None.ensures.reads so_far.2
-
-pub loop-after-preserved : goal.loop-after-preserved
-loop-after-preserved c = record {
-  reads = λ meter places rest is.
-      let so_far = c.loop-after.invariant.reads meter places rest is in
-      let next = next_void meter so_far.0 rest c.loop-after.rest.now c.in-Some.field-0-0.now c.in-Some.after.now c.in-Some-number.found.0
-      c.in-Some-number.found.1.now c.in-Some.ensures.reads c.in-Some.ensures.parts c.in-Some-number.ensures.reads so_far.2 in (
-        next.0,
-        places_so_far c.loop-after.places.items c.push.new.self.items so_far.0 next.0 places c.in-Some-number.found.0 c.in_ok-push.ensures.items next.1 so_far.1,
-        next.2,
+pub loop-void-preserved : goal.loop-void-preserved
+loop-void-preserved c = record {
+  reads = λ meter voids rest is.
+      let before = c.loop-void.invariant.reads meter voids rest is in
+      let next = next_item VoidFits (void_line meter) (Begins (codes "void ")) before.0 rest c.loop-void.rest.now (λ v. c.in-Some.void ≡ v) c.in-Some.after.now
+      (λ v r fits text. c.in-Some.ensures.reads meter v r is.word fits text) c.in-Some.ensures.begins before.2.lines in (
+        next.1,
+        so_far c.loop-void.voids.items c.push.new.self.items before.0 next.1 voids next.0
+            (c.in_ok-push.ensures.items ∙ ap (λ (v : VoidRow). c.loop-void.voids.items ++ v ∷ []) next.3) next.2 before.1,
+        record { word = is.word; lines = next.4 },
       );
-  text = c.in-Some-number.ensures.utf8;
-  short = omega (arith, c.in-Some.ensures.shorter, c.in-Some-number.ensures.shorter, c.loop-after.invariant.short);
+  text = c.in-Some.ensures.utf8;
+  short = omega (arith, c.in-Some.ensures.shorter, c.loop-void.invariant.short);
 }
 
 pub returns-clause-reads : goal.returns-clause-reads
 returns-clause-reads c =
-    λ meter places rest is.
-    let so_far = c.loop-after.invariant.reads meter places rest is in
-    let last = no_more_voids meter so_far.0 rest c.loop-after.rest.now c.in_default.ensures.reads so_far.2 in (
-      sym (append-nil c.loop-after.places.items) ∙ ap (λ (xs : List ℕ). c.loop-after.places.items ++ xs) (sym last.0) ∙ so_far.1,
-      last.1,
-    )
+    λ meter voids rest is.
+    let before = c.loop-void.invariant.reads meter voids rest is in
+    let last = no_more VoidFits (void_line meter) (Begins (codes "void ")) before.0 rest c.loop-void.rest.now
+    (λ v r fits text. c.in_default.ensures.reads meter v r is.word fits text) before.2.lines in
+    (all_done c.loop-void.voids.items before.0 voids last.0 before.1, last.1)

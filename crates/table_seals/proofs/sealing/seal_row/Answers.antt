@@ -11,7 +11,7 @@ returns-in-Ok g c =
     let text : column c.args.row.now 1 ≡ Text (string_bytes c.in-Ok-Some.meter) = rw c.in-Ok-Some.field-0-is at c.in-Ok-Some.ensures in
     let same : c.deref.result.now ≡ string_bytes c.in-Ok-Some.meter = search rules in
     made g.S.Store c.args.conn.now c.meter_rows.new.conn c.in_ok-rows.rows c.in-Ok.seal (AreRowsOf c.deref.result.now)
-    (λ content found. SealsRow content c.args.row.now found) c.in_ok-rows.ensures
+    (λ content found. SealsRow c.args.zone.now content c.args.row.now found) c.in_ok-rows.ensures
     (λ content theirs. record {
       rows = Some c.in_ok-rows.rows;
       theirs = (c.deref.result.now, text ∙ ap Text (sym same), theirs);

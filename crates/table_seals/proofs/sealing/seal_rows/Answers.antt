@@ -16,15 +16,15 @@ returns-in_err-seal g c =
 
 pub returns-in-None : goal.returns-in-None
 returns-in-None g c =
-    made g.S.Store c.args.conn.now c.seal_row.new.conn c.in_ok-seal.field-0 None _ (SealsRows c.args.rows.now)
+    made g.S.Store c.args.conn.now c.seal_row.new.conn c.in_ok-seal.field-0 None _ (SealsRows c.args.zone.now c.args.rows.now)
     (finds_then g.S.Store c.args.conn.now c.loop-row.conn c.seal_row.new.conn c.loop-row.seals (Ok c.in_ok-seal.field-0) _ _
-    (λ content found. SealsRow content c.row-item.result found)
+    (λ content found. SealsRow c.args.zone.now content c.row-item.result found)
     c.loop-row.invariant c.in_ok-seal.ensures (λ content _ before one. one))
     (λ content one. (
       c.loop-row.row-index,
       c.row-item.result,
       there_at c.args.rows.now c.loop-row.row-index c.row-item.result (omega arith) c.row-item.is,
-      subst (SealsRow content c.row-item.result) c.in-None.is one,
+      subst (SealsRow c.args.zone.now content c.row-item.result) c.in-None.is one,
     ))
 
 pub returns-in_err-keep : goal.returns-in_err-keep
@@ -40,12 +40,12 @@ returns-in_err-keep g c =
 pub loop-row-preserved : goal.loop-row-preserved
 loop-row-preserved g c =
     made g.S.Store c.args.conn.now c.seal_row.new.conn c.in_ok-seal.field-0 c.keep.new.seals
-    (λ content found. AreSealed content (take c.loop-row.row-index c.args.rows.now) c.loop-row.seals.items × SealsRow content c.row-item.result found) _
+    (λ content found. AreSealed c.args.zone.now content (take c.loop-row.row-index c.args.rows.now) c.loop-row.seals.items × SealsRow c.args.zone.now content c.row-item.result found) _
     (finds_then g.S.Store c.args.conn.now c.loop-row.conn c.seal_row.new.conn c.loop-row.seals (Ok c.in_ok-seal.field-0)
-    (λ content seals. AreSealed content (take c.loop-row.row-index c.args.rows.now) seals.items) (λ content found. SealsRow content c.row-item.result found)
-    (λ content found. AreSealed content (take c.loop-row.row-index c.args.rows.now) c.loop-row.seals.items × SealsRow content c.row-item.result found)
+    (λ content seals. AreSealed c.args.zone.now content (take c.loop-row.row-index c.args.rows.now) seals.items) (λ content found. SealsRow c.args.zone.now content c.row-item.result found)
+    (λ content found. AreSealed c.args.zone.now content (take c.loop-row.row-index c.args.rows.now) c.loop-row.seals.items × SealsRow c.args.zone.now content c.row-item.result found)
     c.loop-row.invariant c.in_ok-seal.ensures
     (λ content _ before one. (before, one)))
     (λ content both.
-    next_sealed content c.args.rows.now c.loop-row.row-index c.row-item.result c.loop-row.seals.items c.keep.new.seals.items c.in-Some.seal (omega arith)
-    c.row-item.is c.in_ok-keep.ensures.kept both.0 (subst (SealsRow content c.row-item.result) c.in-Some.is both.1))
+    next_sealed c.args.zone.now content c.args.rows.now c.loop-row.row-index c.row-item.result c.loop-row.seals.items c.keep.new.seals.items c.in-Some.seal (omega arith)
+    c.row-item.is c.in_ok-keep.ensures.kept both.0 (subst (SealsRow c.args.zone.now content c.row-item.result) c.in-Some.is both.1))

@@ -9,6 +9,7 @@ returns c = record {
   meter_is = subst (λ found. IsTextIn (column c.args.row.now 1) found) c.in-Some.is c.in_ok-meter.ensures;
   register_is = subst (λ found. IsTextIn (column c.args.row.now 2) found) c.in-Some-2.is c.in_ok-register.ensures;
   ceiling_is = sym c.in-Ok.ensures.read;
+  place_is = sym c.in-Ok-whole.ensures.read;
   meter_text = IsUtf8-string_bytes c.in-Some.meter;
   register_text = IsUtf8-string_bytes c.in-Some-2.register;
 }
