@@ -5,3 +5,6 @@ pub mod JoinsLemmas
 pub mod LogFrames
 pub mod LogPages
 pub mod LatestLemmas
+mod RowOrder
+mod FineMeters
+mod FineRegisters

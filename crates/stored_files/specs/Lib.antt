@@ -9,3 +9,4 @@ pub mod Joins
 pub mod Logs
 pub mod Recoveries
 pub mod Audits
+pub mod FineFiles

@@ -9,6 +9,7 @@ mod carries;
 mod courses;
 mod ends;
 mod files;
+mod fine_files;
 mod joins;
 mod logs;
 mod new_office;
@@ -27,6 +28,7 @@ pub use files::{
     Databases, FileConnection, FileFault, LogHeader, check_beside, check_regular, is_bare,
     is_blank, is_office, length_of, log_of, make_file, mend_beside, open_file, real_path,
 };
+pub use fine_files::fine_registers_are_in_turn;
 pub use joins::{JoinFault, JoinedOffice, join_stored};
 pub use logs::LogFault;
 pub use new_office::create_stored;
