@@ -192,7 +192,7 @@ def bounds(office):
         ran = office.run("audit", "--db", "office.db", "--against", name, limit=20)
         check(f"a seal in {name}", ran.returncode == 3 and ran.stdout == b"", ran)
     with open(office.path("long.seal"), "wb") as it:
-        it.write(b"seal 2\n")
+        it.write(b"seal 3\n")
         it.truncate(3 << 30)
     ran = office.run("audit", "--db", "office.db", "--against", "long.seal")
     check("a seal of 3 GB is none", (ran.returncode, b"not a seal" in ran.stderr) == (2, True), ran)

@@ -310,12 +310,15 @@ INSERT INTO installations VALUES (1, 'm1', 'main', 100000, 0, 1000, 5000, 0, 0);
 INSERT INTO entries VALUES ('m1', 1, 1, 1000, 5000, 0, 0, 0), ('m1', 2, 2, 1900, 5200, 0, 0, 0); INSERT INTO voids VALUES ('m1', 2, 4000);
 INSERT INTO polls VALUES (1, 'inv', 1, 1898, 7, 3, 40094, 3), (2, 'inv', 1, 1898, 7, 3, 40094, 3); INSERT INTO outcomes VALUES (1, 1900, 1, 0);
 INSERT INTO holds VALUES (1, 'm1', 1, 1901, 5100, 1, 2);"""
-SEAL = """seal 2
-meter m1 at main range 100000 ceiling 100000 entries 2 sha256 af5a77563671b51a22879dc2764012afada14ff7f7190cf809fa2e62d8652429
-void m1 2
+SEAL = """seal 3
+zone UTC0
+device inv unit 1
+register main at inv function 3 address 40094 scale-address 40096
+meter m1 number 1 at main range 100000 ceiling 100000 entries 2 sha256 af5a77563671b51a22879dc2764012afada14ff7f7190cf809fa2e62d8652429
+void m1 2 at 4000
 polls 2 sha256 7cbd60983a66a336f8e20c702600fc7b157672c4b1117b45c13434283f521467
 pending 2
-sha256 dd6a41689d1145463c6fc78f948dd36ed06792a023b4ebf07f2198a48548740f
+sha256 85ba83f9939c7ecda57f5236fd0d6869c14127c8c906ce2245b94fa3d915bac8
 """
 
 # A meter reads 5200 at 1900. It is replaced by another, which is read by hand: 300 and 45 Wh in
