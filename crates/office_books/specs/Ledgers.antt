@@ -58,7 +58,7 @@ pub record Consults {T : Type 0} (old new : Ledger) (result : Result T BooksFaul
   pub keeps : KeepsFacts old new
 
 -- States that, if the store is clean (every wrong result was detected) after a lookup, a successful
--- result is the one that the store's records require. States nothing otherwise.
+-- result is what the store's records require. States nothing otherwise.
 abbrev pub Finds : {T : Type 0} → (old new : Ledger) → Result T BooksFault
     → (List Fact → T → Type 0) → Type 0
 Finds old new result says = (known : List Fact) → old.holds known → new.is_clean

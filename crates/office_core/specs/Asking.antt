@@ -106,7 +106,7 @@ pub record HandsDays {S : Type 0} (takes : S → DayTotal → S → Type 0) (zon
   pub none : OnErr result (to ≡ from)
 
 -- States that, if every wrong result of the store was detected, the result of a query for one row
--- is the one that follows from the store's records.
+-- follows from the store's records.
 abbrev pub FoundIn : {T : Type 0} → (old new : Ledger) → Result T Refusal → (List Fact → Option T)
     → Type 0
 FoundIn old new result row =
@@ -143,8 +143,7 @@ ListsDays old new register span result =
     × (new.failures ≡ old.failures))
     (IsOutside (Unit {0}) old.failures new.failures)
 
--- True if the answer to a query for one row is the one that follows from the records of all
--- accepted events.
+-- True if the answer to a query for one row follows from the records of all accepted events.
 abbrev pub ReportsRow : {B T : Type 0} → (B → Ledger) → (old new : Office B) → Result T Refusal
     → (List Fact → Option T) → Type 0
 ReportsRow ledger old new result row = After ledger old new (λ past.

@@ -49,8 +49,8 @@ history_after past (fed ∷ later) =
 abbrev pub accepted_by : {B : Type 0} → History → (opened : ℕ) → List (ℕ × Event) → Run B → History
 accepted_by past opened events run = history_after (Opened opened ∷ past) (events_of events run)
 
--- True if the answer to the event is the one that the accepted events require, or reports that the
--- store or memory failed. A device event that ends no poll never fails.
+-- True if the answer to the event is what the accepted events require, or reports that the store or
+-- memory failed. A device event that ends no poll never fails.
 pub record IsAnswered (past : History) (before after : Failures) (fed : Answered) : Type 0 where
   pub answer : IsAnswer past fed.at fed.event before after fed.result
   pub quiet : SettlesNothing past fed.at fed.event → is_failure fed.result ≡ false

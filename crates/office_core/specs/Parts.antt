@@ -70,8 +70,8 @@ IsListed None before after (Err why) =
     ((why ≡ refusal.NotFound) × (after ≡ before)) ⊎ IsOutside ⊥ before after why
 IsListed (Some rows) before after (Err why) = IsOutside ⊥ before after why
 
--- States that, if every wrong result of the store was detected, the list that a query returns is
--- the one that follows from the store's records.
+-- States that, if every wrong result of the store was detected, the list that a query returns
+-- follows from the store's records.
 abbrev pub ListsIn : {T : Type 0} → (old new : Ledger) → Result (Vec T Global) Refusal
     → (List Fact → Option (List T)) → Type 0
 ListsIn old new result rows = (known : List Fact) → old.holds known → new.is_clean

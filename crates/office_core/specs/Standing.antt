@@ -37,8 +37,8 @@ pub record Stands {B : Type 0} (ledger : B → Ledger) (past : History)
   pub books : BooksStand (ledger office.books) past
   pub goes : office.stopped ≡ false → Goes past office
 
--- States that, if every wrong result of the store was detected, the program's state is the one that
--- follows from the history of accepted events.
+-- States that, if every wrong result of the store was detected, the program's state follows from
+-- the history of accepted events.
 abbrev pub StandsIfClean : {B : Type 0} → (B → Ledger) → History → Office B → Type 0
 StandsIfClean ledger past office = (ledger (books_in office)).is_clean → Stands ledger past office
 

@@ -22,8 +22,8 @@ use Rattle.office_core.specs.Standing.{Goes, books_in, is_stopped, notes_in, out
 abbrev pub failures_of : {B : Type 0} → (B → Ledger) → Office B → Failures
 failures_of ledger office = (ledger office.books).failures
 
--- True if the answer to an event is the one that `decision_of` (the specification of answers) gives
--- from the accepted events, or correctly reports a failure or a stopped program. Memory outside the
+-- True if the answer to an event is what `decision_of` (the specification of answers) gives from
+-- the accepted events, or correctly reports a failure or a stopped program. Memory outside the
 -- store is needed only if the event is accepted.
 abbrev pub IsAnswer : History → (at : ℕ) → Event → (before after : Failures)
     → Result Answer Refusal → Type 0
@@ -31,8 +31,8 @@ IsAnswer past at e before after result =
     ((result ≡ decision_of past at e) × (after ≡ before))
     ⊎ FailsOutside (IsAccepted past at e) before after result
 
--- True if the answer to the event is the one that the accepted events require or reports a failure,
--- and the store's failure counter changes as the answer requires.
+-- True if the answer to the event is what the accepted events require or reports a failure, and the
+-- store's failure counter changes as the answer requires.
 abbrev pub AnswersEvent : {B : Type 0} → (B → Ledger) → (at : ℕ) → Event → (old new : Office B)
     → Result Answer Refusal → History → Type 0
 AnswersEvent ledger at e old new result past =

@@ -149,7 +149,7 @@ Does ledger at old new link read (Err Short) =
 Does ledger at old new link read (Err TurnsUsed) = ReadsOn old new link read
 
 -- True if the call of `handle`, which serves one request, read some bytes from the client. Their
--- effect must be the one that `Does` states for the result of the call.
+-- effect must be as `Does` states for the result of the call.
 pub record Handles {B : Type 0} (ledger : B → Ledger) (at : ℕ) (old new : Office B) (link : Passage)
     (result : Result (Unit {0}) HandleFault) : Type 0 where
   pub read : List ℕ

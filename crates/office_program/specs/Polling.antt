@@ -99,8 +99,8 @@ StandsAt Waiting device past fed round = IsUnderWay device past fed round
 StandsAt (Leaving cause) device past fed round = cause ≡ closing.Gone
 
 -- True if the polling round is in the state that follows from the events that it fed to the event
--- engine. Also requires that the round's next action is the one that the definition `next_in` gives
--- for these events.
+-- engine. Also requires that the round's next action is what the definition `next_in` gives for
+-- these events.
 pub record Holds (device : Option (List ℕ)) (past : History) (fed : List Answered)
     (round : Round) : Type 0 where
   pub device_is : round.device ≡ device

@@ -51,7 +51,7 @@ pub record ReportsDays (zone : Zone) (past : History) (register : Option (List �
       IsFound (there ≡ Some tt) there before after answer
   pub report : OnOk answer (IsReport zone past register form Is)
 
--- States that the energy report is the one that the events accepted before the query determine
+-- States that the energy report is what the events accepted before the query determine
 -- (`ReportsDays`).
 abbrev pub ReportsDaysReport : {B : Type 0} → (B → Ledger) → (old new : Office B)
     → (register : Option (List ℕ)) → ReportForm → Result (Unit {0}) Refusal → (Is : List ℕ → Type 0)

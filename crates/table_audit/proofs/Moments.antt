@@ -20,7 +20,7 @@ lt_is a b h = grind (arith, nat_tests)
 lt_not : (a b : ℕ) → b ≤ a → nat_lt a b ≡ false
 lt_not a b h = grind (arith, nat_tests)
 
--- The latest number is the one that has started, if no later number has.
+-- A number that has started is the latest one, if no later number has.
 latest_is : (start : ℕ → ℕ) (most k day : ℕ) → k ≤ most → start k ≤ day → ((n : ℕ) → k < n → day < start n) → latest start most day ≡ k
 unfolding latest
 latest_is start zero k day few begun later = omega (arith, few)

@@ -161,8 +161,9 @@ fn append_early(
     }
 }
 
-/// Reports the first void record (the cancellation of a reading) that names no entry it may cancel,
-/// and the first one that is earlier than its entry. Returns true if there is no such void record.
+/// Reports the first void record (the cancellation of a reading) that names no entry it may cancel.
+/// Also reports the first void record before its entry. Returns true if there is no such void
+/// record.
 fn append_voids(
     entries: &[TableRow],
     voids: &[VoidRow],

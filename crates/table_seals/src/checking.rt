@@ -256,9 +256,10 @@ fn check_in_zone<S: Alter>(
 /// Checks a file's tables against a seal (digests of earlier records). Returns the meters, the
 /// lines of the time zone, devices and registers, and the polls that don't match the seal, and what
 /// later voids changed. Records that were added after the sealing, such as the outcome of a pending
-/// poll, don't count as differences. Returns None if the file has no time zone. Memory holds all
-/// rows of `devices`, `registers` and `installations`. It also holds the rows and the text of one
-/// meter, or of one run of `RUN` polls, at a time.
+/// poll, don't count as differences. Returns None if the file has no time zone.
+///
+/// Memory holds all rows of `devices`, `registers` and `installations`. It also holds the rows and
+/// the text of one meter, or of one run of `RUN` polls, at a time.
 pub fn check_seal<S: Alter>(
     alloc: Global,
     conn: &mut Connection<S>,

@@ -71,7 +71,7 @@ entry_comes stay move ranges b facts old new lawful goes are meter row there =
     (λ apart. other_entry stay b facts meter row apart (are meter row (sym (goes.others meter apart) ∙ there)))
 
 -- True if each cached point list, list of accounting registers (named energy counters) and state of
--- a meter is the one that follows from the records.
+-- a meter follows from the records.
 pub record NamesAreTrue (kept : Known) (facts : List Fact) : Type 0 where
   pub lists : EachIs (λ device list. list_of facts device ≡ Some list) kept.lists
   pub registers : EachIs (λ device v. v.items ≡ registers_of facts device) kept.registers

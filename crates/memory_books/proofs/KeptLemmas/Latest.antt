@@ -71,7 +71,7 @@ pub found_latest : (facts : List Fact) (register : List ℕ) (row : Installation
 found_latest facts register row is = found_so facts register row (installed_at facts register) refl is
 
 -- Helper lemmas: after an entry of a meter is recorded and advances the meter's cached state, the
--- cached state is the one that follows from the records.
+-- cached state follows from the records.
 sound_so : (row : Installation) → IsSound row → IsSound row
 sound_so row h = record { range = h.range; ceiling = h.ceiling; raw = h.raw; scale = h.scale; total = h.total }
 

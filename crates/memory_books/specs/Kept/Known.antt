@@ -1,5 +1,5 @@
 -- Definition of when a cache of lookup results agrees with the records of the store: each cached
--- result is the one that follows from the records.
+-- result follows from the records.
 use Rattle.std.specs.Prelude.{◌≡◌, ℕ, List, Some}
 use Rattle.office_events.specs.declared.facts.Fact.{Fact}
 use Rattle.office_events.specs.declared.questions.Installation.{Installation}

@@ -91,8 +91,7 @@ MovesOnBy at c replies old new result =
     AreLawful later → Moves old new known later result
 
 -- The guarantees of executing a command. The command's records are written, its reads are started,
--- its request frames are returned to be sent, and its answer is the one that the specification
--- gives.
+-- its request frames are returned to be sent, and its answer is what the specification gives.
 pub record Obeys (old new : Ledger) (after : List Slot) (slots : List sessions.Slot)
     (known : List Fact) (at : ℕ) (c : Command)
     (replies : List Fact) (result : Result Done BooksFault) : Type 0 where
@@ -107,8 +106,8 @@ pub record Obeys (old new : Ledger) (after : List Slot) (slots : List sessions.S
       done.outgoing ≡ notes.frames_by (next_poll known) at slots known (Some c))
 
 -- The guarantees of executing an accepted event that requests a command. The records are written,
--- the reads are started, the request frames are returned to be sent, and the answer is the one that
--- the specification gives.
+-- the reads are started, the request frames are returned to be sent, and the answer is what the
+-- specification gives.
 pub record Carries (old new : Ledger) (after : List Slot) (past : History) (at : ℕ) (e : Event)
     (result : Result Done BooksFault) : Type 0 where
   pub books : Moves old new (facts_of past) (facts_of (Fed at e ∷ past)) result

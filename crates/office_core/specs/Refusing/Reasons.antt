@@ -53,8 +53,8 @@ refusal_under slots facts arrival c = find (speaks_against slots facts arrival c
 abbrev pub IsWhy : Arrival → Command → List Fact → Option Refusal → Type 0
 IsWhy arrival c facts r = (slots : List sessions.Slot) → r ≡ refusal_under slots facts arrival c
 
--- True if a decision on the command (a reason to refuse it, or none) is the one that the
--- specification gives for the given records and device connections.
+-- True if a decision on the command (a reason to refuse it, or none) is what the specification
+-- gives for the given records and device connections.
 abbrev pub IsWhyAmong : List Slot → Arrival → Command → List Fact → Option Refusal → Type 0
 IsWhyAmong kept arrival c facts r =
     (slots : List sessions.Slot) → KeepsSlots kept slots → r ≡ refusal_under slots facts arrival c

@@ -16,7 +16,7 @@ pub record KeepsSession (device : Device) (kept : standing.State)
   pub window : kept.window ≡ device.window
 
 -- True if the slot of a device (its connection state) has a session exactly when the device is
--- connected. The session's state must be the one that follows from the events of the connection.
+-- connected. The session's state must follow from the events of the connection.
 abbrev pub KeepsPresent : Device → Option standing.State → Option (List session.Event) → Type 0
 KeepsPresent device None None = Unit {0}
 KeepsPresent device (Some kept) (Some events) = KeepsSession device kept events

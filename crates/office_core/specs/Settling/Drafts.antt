@@ -58,8 +58,8 @@ abbrev pub Adds : {T : Type 0} → (old new : Ledger) → (before after : Pendin
 Adds old new before after result more reports =
     OnOk result (Grows old.holds new.is_clean before after more reports)
 
--- True if the result of a lookup is the one that follows from the store's records and the records
--- of the pending write (not yet stored).
+-- True if the result of a lookup follows from the store's records and the records of the pending
+-- write (not yet stored).
 abbrev pub FindsAfter : {T : Type 0} → (old new : Ledger) → PendingWrite → Result T BooksFault
     → (List Fact → T → Type 0) → Type 0
 FindsAfter old new draft result says =

@@ -46,8 +46,7 @@ fn enter_text<B: Books, C: Clock, F: NamedFiles, W: Write>(
     progress.status()
 }
 
-/// Opens an event engine over a store at the clock's time, and enters the lines of an input, each
-/// of which is a request.
+/// Opens an event engine over a store at the clock's time, and enters the lines of an input.
 ///
 /// Each input line is a request. Its idempotency key is the caller and the line's first word, a
 /// number. So a line that was executed earlier is answered `ok`, and is not executed again. The

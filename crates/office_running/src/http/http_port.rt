@@ -107,7 +107,7 @@ impl HttpPort {
     }
 
     /// Returns the slot (index) of the connection that is served first. This is the slot after the
-    /// one that was answered last. If the response in the last slot has more rows, it is the last
+    /// slot that was answered last. If the response in the last slot has more rows, it is the last
     /// slot itself.
     pub fn first(&self) -> usize
         ensures { result ≡ self.now.first }

@@ -1,6 +1,6 @@
 -- Lemmas about the function `handle` of the crate `office_http`, which reads a request from memory
--- and writes the response to memory. The response is the one that the contract `Serves` requires
--- for these bytes.
+-- and writes the response to memory. The response is what the contract `Serves` requires for these
+-- bytes.
 use Rattle.std.proofs.Common.{◌≡◌, ℕ, List, [], Option, Some, Result, subst, ap, sym, ◌∙◌}
 use Rattle.mb_wire.specs.declared.link.LastTake.{LastTake}
 use Rattle.office_books.specs.Ledgers.{Ledger}

@@ -187,9 +187,9 @@ text_ran zone text input status o o' same short runs =
 none_begun : (zone : Zone) (input : List ℕ) → InputBegins zone input []
 none_begun zone input = record { long = λ long. (too_long, refl); text = λ short. inl (no_office, refl) }
 
--- Suppose that the input of a script run (an execution of command lines) is too long, and the run
--- prints `too long`; or that reading the input fails, and the run fails. Then the run satisfies its
--- specification `InputRuns`.
+-- A script run (an execution of command lines) satisfies its specification `InputRuns` in two
+-- cases. Its input is too long, and it prints `too long`. Or reading the input fails, and the run
+-- fails.
 pub unread_ran : (zone : Zone) (input : List ℕ) (status : ExitStatus) (o o' : Option (List ℕ)) → EndsUnread input status o o'
     → InputRuns zone input status o o'
 unread_ran zone input Fine o o' (inl long) = absurd long.1
